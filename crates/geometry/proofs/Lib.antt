@@ -1,0 +1,3 @@
+pub mod Weights
+pub mod Paths
+pub mod Corners

@@ -1,0 +1,4 @@
+pub mod Weights
+pub mod Corners
+pub mod Paths
+pub mod Cells
