@@ -54,7 +54,8 @@ cell-fields c w h = record {
   tail = (path-fits (c .path) h, mul-mod-left (number (c .path)) (size (depthOf c)));
 }
 
-cell-back : (c : Cell) → WellFormed c → depthOf c ≤ 26 → Back (solidNo (c .solid)) (c .face) (pathOf (c .path)) (depthOf c)
+-- the fields of a cell's code
+pub cell-back : (c : Cell) → WellFormed c → depthOf c ≤ 26 → Back (solidNo (c .solid)) (c .face) (pathOf (c .path)) (depthOf c)
 cell-back c w h = formed-back (solidNo (c .solid)) (c .face) (pathOf (c .path)) (depthOf c) (cell-fields c w h)
 
 pub code-formed : (c : Cell) → WellFormed c → depthOf c ≤ 26 → Code (codeOf c)

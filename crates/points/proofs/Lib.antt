@@ -1,0 +1,5 @@
+pub mod Lifting
+pub mod Down
+pub mod Holds
+pub mod Loop
+pub mod Located
