@@ -1,0 +1,33 @@
+-- How answers cross to C.
+--
+--   oneNumber a    == an answer as one number: the code, or else the refusal's
+--   Gives Q n      == n is that one number for an answer whose reply meets Q
+--   Writes x n out == n is the number, and out the four values, of the reply for unpacking x
+--
+-- Assumes nothing.
+use mathlib.Core.List.{List, [], _∷_}
+use mathlib.Core.Path.{_≡_}
+use Prim.Native.Nat.{ℕ}
+use Rattle.refusals.specs.Answers.{Reply, reply}
+use Rattle.refusals.specs.declared.Answer.{Answer}
+use Rattle.refusals.specs.declared.Answer.the-variants.{Code, Refused}
+use Rattle.codes.specs.Calls.{Unpacking, Unpacked}
+
+-- "It gets one number, the code or else the refusal's."
+abbrev pub oneNumber : Answer → ℕ
+oneNumber (Code c) = c
+oneNumber (Refused k) = k
+
+pub record Gives (Q : Reply → Type 0) (n : ℕ) : Type 0 where
+  pub answer : Answer
+  pub meets : Q (reply answer)
+  pub is : n ≡ oneNumber answer
+
+abbrev pub values : Unpacking → List ℕ
+values u = u .solid ∷ u .face ∷ u .path ∷ u .depth ∷ []
+
+pub record Writes (x n : ℕ) (out : List ℕ) : Type 0 where
+  pub answer : Unpacking
+  pub meets : Unpacked x answer
+  pub number : n ≡ answer .number
+  pub slots : out ≡ values answer
