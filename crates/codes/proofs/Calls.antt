@@ -11,7 +11,8 @@ use lib.ListN.{length, length-append}
 use Rattle.solids.specs.Triangles.{Corner}
 use Rattle.refusals.specs.Refusals.{DIGIT, DEEP, ROOT, Single}
 use Rattle.refusals.specs.Answers.{done, refused}
-use Rattle.refusals.proofs.Refusals.{need-single, is-single, met, done-differs, done-one}
+use Rattle.refusals.proofs.Refusals.{need-single, is-single, met}
+use Rattle.refusals.proofs.Answers.{done-differs, done-one}
 use Rattle.geometry.specs.Corners.{Digit, childCorners, corners}
 use Rattle.geometry.specs.Paths.{digitNo, digitOf}
 use Rattle.geometry.specs.Cells.{Cell, WellFormed, depthOf, corner, parent, child, under}

@@ -9,7 +9,8 @@ use Rattle.solids.specs.Solids.{Known, solidNo, solidOf, faces}
 use Rattle.solids.proofs.Numbers.{no-solid}
 use Rattle.refusals.specs.Refusals.{SOLID, FACE, DEPTH, POINT, Single}
 use Rattle.refusals.specs.Answers.{done, refused}
-use Rattle.refusals.proofs.Refusals.{need-single, is-single, met, done-differs, done-one}
+use Rattle.refusals.proofs.Refusals.{need-single, is-single, met}
+use Rattle.refusals.proofs.Answers.{done-differs, done-one}
 use Rattle.geometry.specs.Paths.{number}
 use Rattle.geometry.specs.Cells.{Cell, cell, depthOf}
 use Rattle.codes.specs.Codes.{solid, face, depth, joined, size, Code, faults, pathOf, cellOf, codeOf}

@@ -3,10 +3,8 @@
 --   foundCell s f t l r d   == the cell that the way down leads to
 --   Located s f t l r d a   == a is the reply for locating at depth d the point of solid s, face f, weights t, l, r
 --   Least s f d X x         == x is the least code of that solid, face and depth whose cell holds the point X
---   Tells b P               == the answer b is yes exactly when P holds
 --
 -- Assumes nothing.
-use mathlib.Core.Bool.{Bool, true, false}
 use mathlib.Core.Path.{_≡_}
 use Prim.Native.Nat.{ℕ, _+_, _^_, _<_, _≤_}
 use Rattle.solids.specs.Solids.{Known, solidOf, faces}
@@ -39,7 +37,3 @@ pub record Least (s f d : ℕ) (X : ℕ → ℕ) (x : ℕ) : Type 0 where
   pub on : On s f d x
   pub holds : Holds (cellOf x) X
   pub least : (y : ℕ) → On s f d y → Holds (cellOf y) X → x ≤ y
-
-pub record Tells (b : Bool) (P : Type 0) : Type 0 where
-  pub yes : b ≡ true → P
-  pub no : b ≡ false → P → ⊥

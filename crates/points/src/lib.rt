@@ -4,10 +4,10 @@ ghost use mathlib.Core.Path.{_≡_};
 ghost use Prim.Native.Nat.{ℕ, _+_, _^_, _≤_};
 ghost use Rattle.solids.specs.Solids.{solidOf};
 ghost use Rattle.refusals.specs.Refusals.{Single};
-ghost use Rattle.refusals.specs.Answers.{done, reply};
+ghost use Rattle.refusals.specs.Answers.{done, reply, Tells};
 ghost use Rattle.geometry.specs.Paths.{digitNo, number};
 ghost use Rattle.points.specs.Points.{weights, lower, pathTo, pointOf};
-ghost use Rattle.points.specs.Located.{Located, Least, Tells};
+ghost use Rattle.points.specs.Located.{Located, Least};
 use refusals::Answer;
 
 // The sum of a point's weights, 2^26.

@@ -1,18 +1,10 @@
 -- A weight above 2^26 is too much by itself; three that are not sum without wrapping.
 -- Assumes nothing.
-use mathlib.Core.Bool.{true, false, true≢false}
-use mathlib.Core.Path.{sym}
 use native.Mathlib.Omega.{arith}
 use borrow.Author.Needs.{needs}
-use Rattle.points.specs.Located.{Tells}
+use Rattle.refusals.proofs.Answers.{tells-yes, tells-no}
 use Rattle.points.proofs.sums_to_whole.Statement.{statement}
 use Rattle.points.proofs.sums_to_whole.Tie as tie
-
-tells-yes : {P : Type 0} → P → Tells true P
-tells-yes p = record { yes = λ e. p; no = λ e q. true≢false e }
-
-tells-no : {P : Type 0} → (P → ⊥) → Tells false P
-tells-no n = record { yes = λ e. absurd (true≢false (sym e)); no = λ e q. n q }
 
 returns : tie.Need-returns
 returns c = tells-no (λ p. omega arith)
