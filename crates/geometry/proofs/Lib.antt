@@ -4,3 +4,8 @@ pub mod Corners
 pub mod Faces
 pub mod Gluing
 pub mod Across
+pub mod Bases
+pub mod CornerWeights
+pub mod Pairs
+pub mod Third
+pub mod Neighbours
