@@ -9,3 +9,8 @@ pub mod CornerWeights
 pub mod Pairs
 pub mod Third
 pub mod Neighbours
+pub mod Undo
+pub mod Children
+pub mod WayBack
+pub mod Walks
+pub mod Parents
