@@ -56,7 +56,10 @@ sideTest so f g s = not (bothEnds so f g s) || (eqb g f || eqb g (nextFace so s 
 abbrev pairTest : Solid → ℕ → ℕ → Bool
 pairTest so f g = (not (allThree so f g) || eqb g f) && sides-all (sideTest so f g)
 
-known-by-vertices : (so : Solid) → T (below (λ f. below (pairTest so f) (faces so)) (faces so))
+abbrev faceTest : Solid → ℕ → Bool
+faceTest so f = below (pairTest so f) (faces so)
+
+known-by-vertices : (so : Solid) → T (below (faceTest so) (faces so))
 unfolding faceList nextRow δ
 known-by-vertices tetrahedron = tt
 known-by-vertices octahedron = tt
@@ -64,7 +67,7 @@ known-by-vertices icosahedron = tt
 
 module _ (so : Solid) (f g : ℕ) (h : f < faces so) (k : g < faces so) where
   passed : T (pairTest so f g)
-  passed = below-at (pairTest so f) (faces so) (below-at (λ f. below (pairTest so f) (faces so)) (faces so) (known-by-vertices so) f h) g k
+  passed = below-at (pairTest so f) (faces so) (below-at (faceTest so) (faces so) (known-by-vertices so) f h) g k
 
   pub one-face : ((p : Corner) → 1 ≤ on so f (vertex so g p)) → g ≡ f
   one-face l =

@@ -7,7 +7,7 @@
 use mathlib.Core.Bool.{Bool, true, false, _&&_, not, cond, true≢false, false≢true}
 use mathlib.Core.List.{List, [], _∷_, map}
 use mathlib.Core.Path.{_≡_, refl}
-use Rattle.solids.specs.Triangles.{Corner, tip, lft, rgt, Side, left, right, vertical, end₀, end₁}
+use Rattle.solids.specs.Triangles.{tip, lft, rgt, Side, left, right, vertical, end₀, end₁}
 use Rattle.solids.proofs.Seams.{to₀, to₁}
 use Rattle.geometry.specs.Weights.{_⊕_}
 use Rattle.geometry.specs.Corners.{Digit, d00, d01, d10, d11, Triangle, childCorners, corners}

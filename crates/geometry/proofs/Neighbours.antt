@@ -13,7 +13,7 @@ use Rattle.geometry.specs.Corners.{Digit}
 use Rattle.geometry.specs.Cells.{Cell, cell, WellFormed, depthOf}
 use Rattle.geometry.specs.Neighbours.{Has, Neighbour}
 use Rattle.geometry.specs.Steps.{step}
-use Rattle.geometry.proofs.Across.{Across, across}
+use Rattle.geometry.proofs.Across.{across}
 use Rattle.geometry.proofs.Third.{has-ends, third}
 
 -- "The neighbour over a side is the one other cell of the same solid and depth that has both end corners of that side."
@@ -30,8 +30,9 @@ neighbour s c h =
     }
 
 -- a cell of c's own solid that has both end corners
-only-here : (s : Side) (c : Cell) → WellFormed c → (g : ℕ) (es : List Digit) → WellFormed (cell (c .solid) g es) → length es ≡ depthOf c →
-    Has s c (cell (c .solid) g es) → (cell (c .solid) g es ≡ c) ⊎ (cell (c .solid) g es ≡ step s c)
+only-here : (s : Side) (c : Cell) → WellFormed c → (g : ℕ) (es : List Digit) → WellFormed (cell (c .solid) g es) →
+    length es ≡ depthOf c → Has s c (cell (c .solid) g es) →
+    (cell (c .solid) g es ≡ c) ⊎ (cell (c .solid) g es ≡ step s c)
 unfolding step
 only-here s c h g es k e w =
     let n : Neighbour s c (step s c) = neighbour s c h in

@@ -5,20 +5,20 @@
 --   Both so A B f ds == the cell of face f and path ds has the corners A and B
 --
 -- Assumes nothing.
-use mathlib.Core.Bool.{Bool, true, false}
+use mathlib.Core.Bool.{true, false}
 use mathlib.Core.List.{List}
 use mathlib.Core.Logic.{_≢_}
-use mathlib.Core.Path.{_≡_, ap, ap₂, sym, subst}
-use Prim.Native.Nat.{ℕ, _+_, _<_, _≤_}
+use mathlib.Core.Path.{_≡_, ap, ap₂, sym}
+use Prim.Native.Nat.{ℕ, _+_, _≤_}
 use native.Mathlib.Omega.{arith}
 use lib.ListN.{getD, length}
 use Rattle.solids.specs.Triangles.{Corner}
 use Rattle.solids.specs.Solids.{Solid, vertex}
 use Rattle.geometry.specs.Weights.{δ}
 use Rattle.geometry.specs.Corners.{Digit, upright}
-use Rattle.geometry.specs.Cells.{Cell, cell, WellFormed, corner}
+use Rattle.geometry.specs.Cells.{cell, WellFormed, corner}
 use Rattle.geometry.proofs.Weights.{δ-same, δ-eq}
-use Rattle.geometry.proofs.Faces.{vertex-apart, on, δ≤on, corner-on, one-face}
+use Rattle.geometry.proofs.Faces.{vertex-apart, on, δ≤on, one-face}
 use Rattle.geometry.proofs.CornerWeights.{facing, facing-one, baseAt, on-its-face, up-weight, down-weight, path-of-bases}
 
 pub record Both (so : Solid) (A B : List ℕ) (f : ℕ) (ds : List Digit) : Type 0 where
@@ -44,7 +44,8 @@ module _ {so : Solid} {A B : List ℕ} {f : ℕ} {ds : List Digit} (x : Both so 
   p-not-q = vertex-apart so f (x .low) (x .q) (x .p) (λ e. x .apart (sym e))
 
   facing-p-not-q : δ (vertex so f (facing (x .q))) (vertex so f (facing (x .p))) ≡ 0
-  facing-p-not-q = vertex-apart so f (x .low) (facing (x .q)) (facing (x .p)) (λ e. x .apart (sym (facing-one (x .q) (x .p) e)))
+  facing-p-not-q =
+      vertex-apart so f (x .low) (facing (x .q)) (facing (x .p)) (λ e. x .apart (sym (facing-one (x .q) (x .p) e)))
 
 module _ {so : Solid} {A B : List ℕ} {f g : ℕ} {ds es : List Digit} (x : Both so A B f ds) (y : Both so A B g es) where
   -- both upright: the vertex of A is the same on both faces (look at that vertex), and the bases are the same
@@ -111,5 +112,6 @@ module _ {so : Solid} {A B : List ℕ} {f g : ℕ} {ds es : List Digit} (x : Bot
     pub downs-cell : upright ds ≡ false → upright es ≡ false → cell so g es ≡ cell so f ds
     downs-cell u w =
         let e : g ≡ f = downs-face u w in
-        let k : (v : ℕ) → baseAt (cell so f ds) v + on so f v ≡ baseAt (cell so f es) v + on so f v = rw e at (downs-base u w) in
+        let k : (v : ℕ) → baseAt (cell so f ds) v + on so f v ≡ baseAt (cell so f es) v + on so f v =
+        rw e at (downs-base u w) in
         ap₂ (cell so) e (sym (path-of-bases so f ds es (x .low) n (λ v. omega (arith, k v))))

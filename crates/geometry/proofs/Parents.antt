@@ -17,7 +17,7 @@ use Rattle.solids.specs.Triangles.{Corner, tip, lft, rgt, Side, left, right, ve
 use Rattle.solids.specs.Solids.{Solid}
 use Rattle.geometry.specs.Weights.{_⊕_, δ}
 use Rattle.geometry.specs.Corners.{Digit, d00, d01, d10, d11, Triangle, childCorners, corners, upright}
-use Rattle.geometry.specs.Cells.{Cell, cell, WellFormed, corner, child, parentPath, parent}
+use Rattle.geometry.specs.Cells.{Cell, cell, WellFormed, corner, child, parent}
 use Rattle.geometry.specs.Steps.{stops, walked, Way, inside, overStraight, overMirrored, way, moved, step}
 use Rattle.geometry.specs.Parts.{endOf, OnSide, Part}
 use Rattle.geometry.proofs.Weights.{getD-⊕, δ-same}
@@ -78,19 +78,19 @@ module _ (P : Triangle) where
   -- a point of the side weighs twice what an end weighs
   side-weight : (s : Side) (k : Sided s P) (X : List ℕ) → OnSide s P X →
       getD X (k .v) 0 ≡ getD (P (end₀ s)) (k .v) 0 + getD (P (end₀ s)) (k .v) 0
-  side-weight s k X o = rw (o .sum) (go (o .i) (o .j))
+  side-weight s k X o =
+      rw (o .sum) (omega (arith, getD-⊕ (P (endOf (o .i) s)) (P (endOf (o .j) s)) (k .v), end-weight (o .i), end-weight (o .j)))
     where
-      go : (i j : Bool) → getD (P (endOf i s) ⊕ P (endOf j s)) (k .v) 0 ≡ getD (P (end₀ s)) (k .v) 0 + getD (P (end₀ s)) (k .v) 0
-      go false false = omega (arith, getD-⊕ (P (end₀ s)) (P (end₀ s)) (k .v), k .level)
-      go false true = omega (arith, getD-⊕ (P (end₀ s)) (P (end₁ s)) (k .v), k .level)
-      go true false = omega (arith, getD-⊕ (P (end₁ s)) (P (end₀ s)) (k .v), k .level)
-      go true true = omega (arith, getD-⊕ (P (end₁ s)) (P (end₁ s)) (k .v), k .level)
+      end-weight : (i : Bool) → getD (P (endOf i s)) (k .v) 0 ≡ getD (P (end₀ s)) (k .v) 0
+      end-weight false = refl
+      end-weight true = k .level
 
   -- so a child whose side begins at a sum of an end and the third corner has no part of the parent's side
   off-side : (s : Side) (d : Digit) (k : Sided s P) → OnSide s P (childCorners d P (end₀ s)) →
       getD (P (one d (end₀ s))) (k .v) 0 + getD (P (two d (end₀ s))) (k .v) 0 ≡
       getD (P (end₀ s)) (k .v) 0 + getD (P (third s)) (k .v) 0 → ⊥
-  off-side s d k o e = k .clear (omega (arith, side-weight s k (childCorners d P (end₀ s)) o, child-weight d P (end₀ s) (k .v)))
+  off-side s d k o e =
+      k .clear (omega (arith, side-weight s k (childCorners d P (end₀ s)) o, child-weight d P (end₀ s) (k .v)))
 
   on-side-climbs : (s : Side) (d : Digit) → Sided s P → OnSide s P (childCorners d P (end₀ s)) → stops s d ≡ false
   unfolding stops

@@ -12,7 +12,7 @@ use mathlib.Core.Path.{_≡_, refl, ap, sym, _∙_}
 use Prim.Native.Nat.{ℕ}
 use lib.ListN.{length}
 use Rattle.solids.specs.Triangles.{Side, left, right, vertical, tip, lft, rgt, end₀, end₁}
-use Rattle.solids.specs.Solids.{Solid, vertex, nextFace}
+use Rattle.solids.specs.Solids.{vertex, nextFace}
 use Rattle.geometry.specs.Corners.{Digit, upright}
 use Rattle.geometry.specs.Cells.{Cell, cell, WellFormed, depthOf, corner}
 use Rattle.geometry.specs.Neighbours.{Has}
@@ -35,7 +35,8 @@ has-ends s c h g es k w = record {
   low = k;
   p = w .at₀;
   q = w .at₁;
-  apart = λ e. ends-apart s (place-single c h (end₀ s) (end₁ s) (sym (w .same₀) ∙ ap (corner (cell (c .solid) g es)) e ∙ w .same₁));
+  apart = λ e. ends-apart s
+      (place-single c h (end₀ s) (end₁ s) (sym (w .same₀) ∙ ap (corner (cell (c .solid) g es)) e ∙ w .same₁));
   isA = w .same₀;
   isB = w .same₁;
 }
@@ -45,9 +46,11 @@ module _ (s : Side) (c : Cell) (h : WellFormed c) {g k : ℕ} {es zs : List Digi
   abbrev x : Ends s c (c .face) (c .path)
   x = record { low = h; p = end₀ s; q = end₁ s; apart = ends-apart s; isA = refl; isB = refl }
 
-  -- two upright cells: the faces at the side
-  at-side : {i : ℕ} {us : List Digit} → Ends s c i us → upright (c .path) ≡ true → upright us ≡ true →
-      (i ≡ c .face) ⊎ (i ≡ nextFace (c .solid) s (c .face))
+  -- an upright cell, where c is upright, is on one of the two faces at the side
+  abbrev AtSide : ℕ → Type 0
+  AtSide i = (i ≡ c .face) ⊎ (i ≡ nextFace (c .solid) s (c .face))
+
+  at-side : {i : ℕ} {us : List Digit} → Ends s c i us → upright (c .path) ≡ true → upright us ≡ true → AtSide i
   at-side {i} w u t =
       two-faces (c .solid) (c .face) i h (w .low) s
       (corner-on (c .solid) i (vertex (c .solid) (c .face) (end₀ s)) (w .p) (ups-vertex x w u t))
@@ -62,8 +65,7 @@ module _ (s : Side) (c : Cell) (h : WellFormed c) {g k : ℕ} {es zs : List Digi
       nm : length es ≡ length zs
       nm = sym n ∙ m
 
-      all-up : upright (c .path) ≡ true → upright es ≡ true → upright zs ≡ true → (g ≡ c .face) ⊎ (g ≡ nextFace (c .solid) s (c .face)) →
-          (k ≡ c .face) ⊎ (k ≡ nextFace (c .solid) s (c .face)) → Goal
+      all-up : upright (c .path) ≡ true → upright es ≡ true → upright zs ≡ true → AtSide g → AtSide k → Goal
       all-up u v w (inl e) r = absurd (other (ups-cell x y n u v e))
       all-up u v w (inr e) (inl r) = inl (ups-cell x z m u w r)
       all-up u v w (inr e) (inr r) = inr (ups-cell y z nm v w (r ∙ sym e))

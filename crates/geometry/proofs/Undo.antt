@@ -21,10 +21,13 @@ has-back true right c n g = record { at₀ = tip; at₁ = rgt; same₀ = sym (g 
 has-back true vertical c n g = record { at₀ = rgt; at₁ = lft; same₀ = sym (g .glue₁); same₁ = sym (g .glue₀) }
 
 pub undo : (s : Side) (c : Cell) → WellFormed c → step (back s) (step s c) ≡ c
-undo s c h = go (only (back s) (step s c) c (a .wellFormed) h (sym (a .solid)) (sym (a .depth)) (has-back (a .turned) s c (step s c) (a .glued)))
+undo s c h = go (only (back s) (step s c) c (a .wellFormed) h (sym (a .solid)) (sym (a .depth)) has)
   where
     a : Across s c (step s c)
     a = across s c h
+
+    has : Has (back s) (step s c) c
+    has = has-back (a .turned) s c (step s c) (a .glued)
 
     go : (c ≡ step s c) ⊎ (c ≡ step (back s) (step s c)) → step (back s) (step s c) ≡ c
     go (inl e) = absurd (a .other (sym e))

@@ -1,7 +1,7 @@
 -- The walk over a path that is a number: what one turn of a loop over its digits does, from the last digit upwards.
 -- Assumes nothing.
-use mathlib.Core.Bool.{true, false, _&&_, not, cond}
-use mathlib.Core.List.{_∷_, map}
+use mathlib.Core.Bool.{true, false}
+use mathlib.Core.List.{map}
 use mathlib.Core.Path.{_≡_, refl, ap}
 use Prim.Native.Nat.{ℕ, suc, _+_, _*_, _/_, _%_, _^_, _<_}
 use native.Mathlib.Omega.{arith}
@@ -19,9 +19,12 @@ walk-climbs s n p e = rw e (refl, refl)
 
 -- the last digit stops: it is replaced, and the rest is kept
 pub walk-stops : (s : Side) (n p : ℕ) → p < 4 ^ suc n → stops s (digitOf (p % 4)) ≡ true →
-    (number (walked s (digits (suc n) p)) ≡ digitNo (replaced s (digitOf (p % 4))) + 4 * (p / 4)) × (crosses s (digits (suc n) p) ≡ false)
+    (number (walked s (digits (suc n) p)) ≡ digitNo (replaced s (digitOf (p % 4))) + 4 * (p / 4)) ×
+    (crosses s (digits (suc n) p) ≡ false)
 unfolding digits number walked crosses
-walk-stops s n p h e = rw e (ap (λ (m : ℕ). digitNo (replaced s (digitOf (p % 4))) + 4 * m) (number-digits n (p / 4) (omega arith)), refl)
+walk-stops s n p h e =
+    let r : number (digits n (p / 4)) ≡ p / 4 = number-digits n (p / 4) (omega arith) in
+    rw e (rw r, refl)
 
 -- over a mirrored seam each digit is mirrored
 pub mirror-turn : (n p : ℕ) →

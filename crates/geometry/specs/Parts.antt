@@ -1,6 +1,7 @@
 -- When a cell's side is part of its parent's side, by corners.
 --
---   OnSide s P X == X lies on side s of the triangle P, one level down: the sum of two of the side's ends, or of one with itself
+--   OnSide s P X == X lies on side s of the triangle P, one level down: it is the sum of the side's two ends, or of one of
+--                   them with itself
 --   Part s c     == side s of the cell c is part of side s of its parent
 --
 -- Assumes nothing.

@@ -55,7 +55,8 @@ replaced vertical d01 = d01
 replaced vertical d10 = d00
 replaced vertical d11 = d11
 
--- "From the last digit upwards [..]: a stopping digit is replaced and the walk ends; another is replaced and the walk climbs."
+-- "From the last digit upwards [..]: a stopping digit is replaced and the walk ends; another is replaced and the walk
+-- climbs."
 unfoldable pub walked : Side → List Digit → List Digit
 walked s [] = []
 walked s (d ∷ ds) = replaced s d ∷ cond (stops s d) ds (walked s ds)
