@@ -42,17 +42,19 @@ pub δ≤on : (so : Solid) (f v : ℕ) (p : Corner) → δ (vertex so f p) v ≤
 pub corner-on : (so : Solid) (f v : ℕ) (p : Corner) → vertex so f p ≡ v → 1 ≤ on so f v
 corner-on so f v p e = omega (arith, δ≤on so f v p, δ-same v, ap (λ (w : ℕ). δ w v) e)
 
--- a face f that has all three vertices of g is g
+-- face f has all three vertices of face g
 abbrev allThree : Solid → ℕ → ℕ → Bool
 allThree so f g = corners-all (λ p. leb 1 (on so f (vertex so g p)))
 
--- a face g that has both end vertices of side s of f is f, or the next face over that side
+-- face g has both end vertices of side s of face f
 abbrev bothEnds : Solid → ℕ → ℕ → Side → Bool
 bothEnds so f g s = leb 1 (on so g (vertex so f (end₀ s))) && leb 1 (on so g (vertex so f (end₁ s)))
 
+-- then g is f, or the next face over that side
 abbrev sideTest : Solid → ℕ → ℕ → Side → Bool
 sideTest so f g s = not (bothEnds so f g s) || (eqb g f || eqb g (nextFace so s f))
 
+-- the test of two faces
 abbrev pairTest : Solid → ℕ → ℕ → Bool
 pairTest so f g = (not (allThree so f g) || eqb g f) && sides-all (sideTest so f g)
 

@@ -11,6 +11,6 @@ pub mod Third
 pub mod Neighbours
 pub mod Undo
 pub mod Children
+pub mod Parents
 pub mod WayBack
 pub mod Walks
-pub mod Parents

@@ -1,9 +1,9 @@
 -- Where a cell's side is part of its parent's side, the parent of the cell across is the cell across from the parent. Such a
--- side is that of a climbing digit: a stopping digit's side begins at a sum with the corner that is no end of the parent's
--- side, and at some vertex the two ends weigh alike and that third corner does not.
+-- side is that of a climbing digit: a stopping digit's side begins at a sum with the corner opposite the parent's side, and
+-- at some vertex the side's two ends weigh alike and the corner opposite does not.
 --
---   third s   == the corner that is no end of side s
---   Sided s P == a vertex at which the ends of side s of P weigh alike and the third corner does not
+--   opposite s == the corner opposite side s, which is no end of it
+--   Sided s P  == a vertex at which the ends of side s of P weigh alike and the corner opposite does not
 --
 -- Assumes nothing.
 use mathlib.Core.Bool.{Bool, true, false, true≢false}
@@ -26,52 +26,52 @@ use Rattle.geometry.proofs.Faces.{apart, vertex-apart}
 use Rattle.geometry.proofs.CornerWeights.{facing, facing-one, vertexOf, up-weight, down-weight}
 use Rattle.geometry.proofs.Children.{child-climbs}
 
-abbrev third : Side → Corner
-third left = rgt
-third right = lft
-third vertical = tip
+abbrev opposite : Side → Corner
+opposite left = rgt
+opposite right = lft
+opposite vertical = tip
 
-third-not-end₀ : (s : Side) → end₀ s ≢ third s
-third-not-end₀ left = apart tip rgt refl
-third-not-end₀ right = apart tip lft refl
-third-not-end₀ vertical = apart lft tip refl
+opposite-not-end₀ : (s : Side) → end₀ s ≢ opposite s
+opposite-not-end₀ left = apart tip rgt refl
+opposite-not-end₀ right = apart tip lft refl
+opposite-not-end₀ vertical = apart lft tip refl
 
-third-not-end₁ : (s : Side) → end₁ s ≢ third s
-third-not-end₁ left = apart lft rgt refl
-third-not-end₁ right = apart rgt lft refl
-third-not-end₁ vertical = apart rgt tip refl
+opposite-not-end₁ : (s : Side) → end₁ s ≢ opposite s
+opposite-not-end₁ left = apart lft rgt refl
+opposite-not-end₁ right = apart rgt lft refl
+opposite-not-end₁ vertical = apart rgt tip refl
 
 record Sided (s : Side) (P : Triangle) : Type 0 where
   v : ℕ
   level : getD (P (end₁ s)) v 0 ≡ getD (P (end₀ s)) v 0
-  clear : getD (P (third s)) v 0 ≢ getD (P (end₀ s)) v 0
+  clear : getD (P (opposite s)) v 0 ≢ getD (P (end₀ s)) v 0
 
--- upright: the third corner's own vertex; inverted: the vertex that it faces
+-- upright: the opposite corner's own vertex; inverted: the vertex that it faces
 sided : (s : Side) (c : Cell) → WellFormed c → Sided s (corner c)
 sided s c h = go (upright (c .path)) refl
   where
-    weights-off : (p : Corner) → p ≢ third s → δ (vertexOf c p) (vertexOf c (third s)) ≡ 0
-    weights-off p n = vertex-apart (c .solid) (c .face) h p (third s) n
+    vertex-off : (p : Corner) → p ≢ opposite s → δ (vertexOf c p) (vertexOf c (opposite s)) ≡ 0
+    vertex-off p n = vertex-apart (c .solid) (c .face) h p (opposite s) n
 
-    facing-off : (p : Corner) → p ≢ third s → δ (vertexOf c (facing p)) (vertexOf c (facing (third s))) ≡ 0
-    facing-off p n = vertex-apart (c .solid) (c .face) h (facing p) (facing (third s)) (λ e. n (facing-one p (third s) e))
+    facing-off : (p : Corner) → p ≢ opposite s → δ (vertexOf c (facing p)) (vertexOf c (facing (opposite s))) ≡ 0
+    facing-off p n = vertex-apart (c .solid) (c .face) h (facing p) (facing (opposite s)) (λ e. n (facing-one p (opposite s) e))
 
     go : (up : Bool) → upright (c .path) ≡ up → Sided s (corner c)
     go true u =
-        let v : ℕ = vertexOf c (third s) in
+        let v : ℕ = vertexOf c (opposite s) in
         let x = up-weight c h u (end₀ s) v in
         let y = up-weight c h u (end₁ s) v in
-        let z = up-weight c h u (third s) v in
-        let i = weights-off (end₀ s) (third-not-end₀ s) in
-        let j = weights-off (end₁ s) (third-not-end₁ s) in
+        let z = up-weight c h u (opposite s) v in
+        let i = vertex-off (end₀ s) (opposite-not-end₀ s) in
+        let j = vertex-off (end₁ s) (opposite-not-end₁ s) in
         record { v = v; level = omega arith; clear = omega (arith, δ-same v) }
     go false u =
-        let v : ℕ = vertexOf c (facing (third s)) in
+        let v : ℕ = vertexOf c (facing (opposite s)) in
         let x = down-weight c h u (end₀ s) v in
         let y = down-weight c h u (end₁ s) v in
-        let z = down-weight c h u (third s) v in
-        let i = facing-off (end₀ s) (third-not-end₀ s) in
-        let j = facing-off (end₁ s) (third-not-end₁ s) in
+        let z = down-weight c h u (opposite s) v in
+        let i = facing-off (end₀ s) (opposite-not-end₀ s) in
+        let j = facing-off (end₁ s) (opposite-not-end₁ s) in
         record { v = v; level = omega arith; clear = omega (arith, δ-same v) }
 
 module _ (P : Triangle) where
@@ -85,10 +85,10 @@ module _ (P : Triangle) where
       end-weight false = refl
       end-weight true = k .level
 
-  -- so a child whose side begins at a sum of an end and the third corner has no part of the parent's side
+  -- so a child whose side begins at a sum of an end and the opposite corner has no part of the parent's side
   off-side : (s : Side) (d : Digit) (k : Sided s P) → OnSide s P (childCorners d P (end₀ s)) →
       getD (P (one d (end₀ s))) (k .v) 0 + getD (P (two d (end₀ s))) (k .v) 0 ≡
-      getD (P (end₀ s)) (k .v) 0 + getD (P (third s)) (k .v) 0 → ⊥
+      getD (P (end₀ s)) (k .v) 0 + getD (P (opposite s)) (k .v) 0 → ⊥
   off-side s d k o e =
       k .clear (omega (arith, side-weight s k (childCorners d P (end₀ s)) o, child-weight d P (end₀ s) (k .v)))
 

@@ -1,4 +1,5 @@
--- The corner rule: what a neighbour is. It speaks of corners alone, and of no digit and no table.
+-- The corner rule: what a neighbour is. It speaks of corners alone; the step by digits and the rows of next faces have no
+-- part in it.
 --
 --   Has s c n       == the cell n has both end corners of side s of the cell c, at whichever of its own corners
 --   Neighbour s c n == n is another cell of c's solid and depth that has them

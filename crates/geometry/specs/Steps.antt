@@ -6,10 +6,12 @@
 --   crosses s ds     == the walk passes the first digit of ds
 --   mirror d         == d with 01 made 11 and 11 made 01
 --   Way              == how a step goes: inside the face, over a straight seam, over a mirrored seam
---   way s c          == how the step in direction s goes from the cell c
+--   wayNo w          == the number of a way: 0, 1, 2
 --   flips w          == the way w is over a mirrored seam
---   wayNo w          == its number: 0, 1, 2
---   newFace, newPath == the face and the path of the cell that a step leads to
+--   wayOf x m        == the way of a walk that crosses (x) or not, at a seam that is mirrored (m) or not
+--   way s c          == how the step in direction s goes from the cell c
+--   newFace, newPath == the face and the path that a step leads to, by its way
+--   moved w s c      == the cell of that face and path
 --   step s c         == the cell that the step in direction s leads to from c
 --
 -- Assumes nothing.
@@ -21,7 +23,7 @@ use Rattle.solids.specs.Solids.{Solid, nextFace, mirrored}
 use Rattle.geometry.specs.Corners.{Digit, d00, d01, d10, d11}
 use Rattle.geometry.specs.Cells.{Cell, cell}
 
--- "The step by digits", its table:
+-- The table of "The step by digits":
 --
 --   direction  | stops              | climbs
 --   0 left     | 11 to 10, 10 to 01 | 00 to 11, 01 to 00
@@ -61,19 +63,19 @@ unfoldable pub walked : Side → List Digit → List Digit
 walked s [] = []
 walked s (d ∷ ds) = replaced s d ∷ cond (stops s d) ds (walked s ds)
 
--- "A walk that passes the first digit crosses a seam"
+-- "A walk that passes the first digit crosses a seam [..]."
 unfoldable pub crosses : Side → List Digit → Bool
 crosses s [] = true
 crosses s (d ∷ ds) = not (stops s d) && crosses s ds
 
--- "Some seams are mirrored: there the original path is taken with every 01 made 11 and every 11 made 01"
+-- "Some seams are mirrored: there the original path is taken with every 01 made 11 and every 11 made 01 [..]."
 unfoldable pub mirror : Digit → Digit
 mirror d00 = d00
 mirror d01 = d11
 mirror d10 = d10
 mirror d11 = d01
 
--- Document 02, request 3: "inside (0), straight seam (1) or mirrored seam (2), fixed by the tables of document 01"
+-- Document 02, request 3: "inside (0), straight seam (1) or mirrored seam (2), fixed by the tables of document 01".
 pub data Way : Type 0 where
   inside overStraight overMirrored : Way
 
@@ -87,7 +89,6 @@ flips inside = false
 flips overStraight = false
 flips overMirrored = true
 
--- of a walk that crosses or not, to a seam that is mirrored or not
 abbrev pub wayOf : Bool → Bool → Way
 wayOf false m = inside
 wayOf true false = overStraight
@@ -96,13 +97,13 @@ wayOf true true = overMirrored
 unfoldable pub way : Side → Cell → Way
 way s c = wayOf (crosses s (c .path)) (mirrored (c .solid) s (c .face))
 
--- A walk that crosses "takes the neighbouring face from a table per solid, a row for each direction"
+-- A walk that crosses a seam "takes the neighbouring face from a table per solid, a row for each direction".
 abbrev pub newFace : Way → Side → Solid → ℕ → ℕ
 newFace inside s so f = f
 newFace overStraight s so f = nextFace so s f
 newFace overMirrored s so f = nextFace so s f
 
--- On a mirrored seam the mirrored path is taken "in place of the climbing replacements. All other seams use the climbing
+-- On a mirrored seam the path is mirrored, "in place of the climbing replacements. [..] All other seams use the climbing
 -- replacements."
 abbrev pub newPath : Way → Side → List Digit → List Digit
 newPath inside s ds = walked s ds
