@@ -1,3 +1,16 @@
 pub mod Weights
 pub mod Paths
 pub mod Corners
+pub mod Faces
+pub mod Gluing
+pub mod Across
+pub mod Bases
+pub mod CornerWeights
+pub mod Pairs
+pub mod Third
+pub mod Neighbours
+pub mod Undo
+pub mod Children
+pub mod Parents
+pub mod WayBack
+pub mod Walks

@@ -79,3 +79,10 @@ unfolding δ
 δ-other zero (suc w) h = refl
 δ-other (suc v) zero h = refl
 δ-other (suc v) (suc w) h = δ-other v w (λ e. h (ap suc e))
+
+pub δ-eq : (v w : ℕ) → 1 ≤ δ v w → v ≡ w
+unfolding δ
+δ-eq zero zero h = refl
+δ-eq zero (suc w) h = omega arith
+δ-eq (suc v) zero h = omega arith
+δ-eq (suc v) (suc w) h = ap suc (δ-eq v w h)
