@@ -36,7 +36,7 @@ pub extern "C" fn urdinhosa_unpack(code: u64, fields: &mut [u64; 4]) -> u64
             0
         }
         codes::Fields::Refused(number) => {
-            *fields = [0, 0, 0, 0];
+            *fields = [0; 4];
             number
         }
     }

@@ -1,16 +1,12 @@
+-- Each arm has the solid that it names, and so a face of that solid.
+-- Assumes nothing.
 use mathlib.Core.Path.{_≡_}
 use Prim.Native.Nat.{_<_}
 use native.Mathlib.Omega.{arith}
 use Rattle.solids.specs.Solids.{solidOf, faces}
 use Rattle.solids.proofs.next_face.Statement.{statement}
 use Rattle.solids.proofs.next_face.Tie as tie
-use Rattle.solids.proofs.next_face.Reads as reads
-use Rattle.solids.proofs.next_face.Lts as lts
-use Rattle.solids.proofs.Icosahedron.next_face.Reads as Icosahedron-next-face-reads
-use Rattle.solids.proofs.Octahedron.next_face.Reads as Octahedron-next-face-reads
-use Rattle.solids.proofs.Tetrahedron.next_face.Reads as Tetrahedron-next-face-reads
 
--- src/lib.rt:238:14
 next-face-requires : tie.Need-next-face-requires
 next-face-requires c κs =
     let a = c .before .args in
@@ -18,7 +14,6 @@ next-face-requires c κs =
     let h : a .face < faces (solidOf 1) = rw e at (c .before .pre .2) in
     (omega arith, omega arith)
 
--- src/lib.rt:239:14
 next-face-requires-2 : tie.Need-next-face-requires-2
 next-face-requires-2 c κs =
     let a = c .before .args in
@@ -26,7 +21,6 @@ next-face-requires-2 c κs =
     let h : a .face < faces (solidOf 2) = rw e at (c .before .pre .2) in
     (omega arith, omega arith)
 
--- src/lib.rt:240:14
 next-face-requires-3 : tie.Need-next-face-requires-3
 next-face-requires-3 c κs =
     let a = c .before .args in
@@ -34,19 +28,16 @@ next-face-requires-3 c κs =
     let h : a .face < faces (solidOf 3) = rw e at (c .before .pre .2) in
     (omega arith, omega arith)
 
--- src/lib.rt:233:1
 returns : tie.Need-returns
 returns c =
     let e : c .before .before .args .solid ≡ 1 = omega arith in
     rw e (c .next-face .ensures)
 
--- src/lib.rt:233:1
 returns-2 : tie.Need-returns-2
 returns-2 c =
     let e : c .before .before .args .solid ≡ 2 = omega arith in
     rw e (c .next-face2 .ensures)
 
--- src/lib.rt:233:1
 returns-3 : tie.Need-returns-3
 returns-3 c =
     let e : c .before .before .args .solid ≡ 3 = omega arith in

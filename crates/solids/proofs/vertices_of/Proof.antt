@@ -1,20 +1,17 @@
+-- The last arm is the solid 3.
+-- Assumes nothing.
 use mathlib.Core.Path.{_≡_}
 use native.Mathlib.Omega.{arith}
 use borrow.Author.Needs.{needs}
 use Rattle.solids.proofs.vertices_of.Statement.{statement}
 use Rattle.solids.proofs.vertices_of.Tie as tie
-use Rattle.solids.proofs.vertices_of.Reads as reads
-use Rattle.solids.proofs.vertices_of.Lts as lts
 
--- src/lib.rt:209:1
 returns : tie.Need-returns
 returns c = search needs
 
--- src/lib.rt:209:1
 returns-2 : tie.Need-returns-2
 returns-2 c = search needs
 
--- src/lib.rt:209:1
 returns-3 : tie.Need-returns-3
 returns-3 c = let e : c .before .args .solid ≡ 3 = omega arith in rw e
 

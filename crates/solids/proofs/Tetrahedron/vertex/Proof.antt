@@ -1,31 +1,25 @@
+-- The table in the code is the rows of corners of the definition.
+-- Assumes nothing.
 use mathlib.Core.Path.{_∙_}
 use native.Mathlib.Omega.{arith}
+use borrow.Author.Needs.{needs}
 use Rattle.solids.specs.Solids.{tetrahedron, faceList}
 use Rattle.solids.proofs.Rows.{vertex-read}
-use borrow.Author.Needs.{needs}
 use Rattle.solids.proofs.Tetrahedron.vertex.Statement.{statement}
 use Rattle.solids.proofs.Tetrahedron.vertex.Tie as tie
-use Rattle.solids.proofs.Tetrahedron.vertex.Reads as reads
-use Rattle.solids.proofs.Tetrahedron.vertex.Lts as lts
-use Rattle.solids.proofs.wide.Reads as wide-reads
 
--- src/lib.rt:27:14
 mul-wide : tie.Need-mul-wide
 mul-wide c = search needs
 
--- src/lib.rt:27:14
 index-1-wide : tie.Need-index-1-wide
 index-1-wide c = search needs
 
--- src/lib.rt:27:14
 index-2-wide : tie.Need-index-2-wide
 index-2-wide c = search needs
 
--- src/lib.rt:27:9
 wide-requires : tie.Need-wide-requires
 wide-requires c κs = search needs
 
--- src/lib.rt:23:5
 returns : tie.Need-returns
 unfolding faceList
 returns c =

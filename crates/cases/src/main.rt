@@ -1,0 +1,143 @@
+// The exported calls on chosen numbers: well-formed ones, ones at the edges, and ones at fault in one or two ways. A line is
+// the call, what it was given and what it answered, in hexadecimal.
+
+use libc::STDOUT_FILENO;
+
+fn shown(number: u64) {
+    io::write_all(STDOUT_FILENO, b" ");
+    io::print_hex(STDOUT_FILENO, number, 1);
+}
+
+fn answered(number: u64) {
+    io::write_all(STDOUT_FILENO, b" ->");
+    shown(number);
+    io::write_all(STDOUT_FILENO, b"\n");
+}
+
+fn unpack(code: u64) {
+    io::write_all(STDOUT_FILENO, b"unpack");
+    shown(code);
+    let mut fields = [7u64; 4];
+    let number = urdinhosa::urdinhosa_unpack(code, &mut fields);
+    io::write_all(STDOUT_FILENO, b" ->");
+    shown(number);
+    shown(fields[0]);
+    shown(fields[1]);
+    shown(fields[2]);
+    shown(fields[3]);
+    io::write_all(STDOUT_FILENO, b"\n");
+}
+
+fn parent(code: u64) {
+    io::write_all(STDOUT_FILENO, b"parent");
+    shown(code);
+    answered(urdinhosa::urdinhosa_parent(code));
+}
+
+fn child(code: u64, digit: u64) {
+    io::write_all(STDOUT_FILENO, b"child");
+    shown(code);
+    shown(digit);
+    answered(urdinhosa::urdinhosa_child(code, digit));
+}
+
+fn pack(solid: u64, face: u64, path: u64, depth: u64) {
+    io::write_all(STDOUT_FILENO, b"pack");
+    shown(solid);
+    shown(face);
+    shown(path);
+    shown(depth);
+    answered(urdinhosa::urdinhosa_pack(solid, face, path, depth));
+}
+
+fn locate(solid: u64, face: u64, t: u64, l: u64, r: u64, depth: u64) {
+    io::write_all(STDOUT_FILENO, b"locate");
+    shown(solid);
+    shown(face);
+    shown(t);
+    shown(l);
+    shown(r);
+    shown(depth);
+    answered(urdinhosa::urdinhosa_locate(solid, face, t, l, r, depth));
+}
+
+fn about(code: u64) {
+    unpack(code);
+    parent(code);
+    child(code, 0);
+    child(code, 3);
+    child(code, 4);
+}
+
+fn on_codes() {
+    // solid 0
+    about(0x0000_0000_0000_0000);
+    // solid 0 and face 31: the solid wins
+    about(0x3e00_0000_0000_0000);
+    // the first face of the tetrahedron
+    about(0x4000_0000_0000_0000);
+    // its last face
+    about(0x4600_0000_0000_0000);
+    // no face 4
+    about(0x4800_0000_0000_0000);
+    // octahedron, face 7
+    about(0x8e00_0000_0000_0000);
+    // octahedron, no face 8
+    about(0x9000_0000_0000_0000);
+    // icosahedron, face 19
+    about(0xe600_0000_0000_0000);
+    // icosahedron, no face 20, and depth 27: the face wins
+    about(0xe800_0000_0000_001b);
+    // depth 26
+    about(0x4000_0000_0000_001a);
+    // depth 26, every digit 11
+    about(0x41ff_ffff_ffff_fffa);
+    // depth 27
+    about(0x4000_0000_0000_001b);
+    // depth 27 and a bit set
+    about(0x4000_0000_0000_003b);
+    // a bit after the last digit
+    about(0x4000_0000_0000_0020);
+    // digit 01
+    about(0x4080_0000_0000_0001);
+    // icosahedron, face 7, six digits
+    about(0xce96_0000_0000_0006);
+}
+
+fn packing() {
+    pack(257, 0, 0, 0);
+    pack(0, 0, 0, 0);
+    pack(4, 0, 0, 0);
+    pack(1, 32, 0, 0);
+    pack(1, 3, 0x0010_0000_0000_0000, 27);
+    pack(1, 3, 0x0010_0000_0000_0000, 26);
+    pack(1, 4, 0x0010_0000_0000_0000, 27);
+    pack(1, 3, 0x000f_ffff_ffff_ffff, 26);
+    pack(1, 3, 0x0001_0000_0000_0000, 1);
+    pack(1, 3, 0x0004_0000_0000_0000, 1);
+    pack(2, 7, 0, 0);
+    pack(3, 19, 0x0008_0000_0000_0000, 1);
+}
+
+fn locating() {
+    locate(1, 0, 0x200_0000, 0x200_0000, 0, 1);
+    locate(1, 0, 0, 0x200_0000, 0x200_0000, 1);
+    locate(1, 0, 0x1ff_ffff, 1, 0x200_0000, 1);
+    locate(1, 0, 0x1ff_ffff, 0, 0x200_0001, 1);
+    locate(3, 7, 0, 0x400_0000, 0, 26);
+    locate(3, 7, 0x155_5555, 0x155_5555, 0x155_5556, 26);
+    locate(1, 0, 0x400_0000, 0, 0, 0);
+    locate(1, 0, 0xffff_ffff_ffff_ffff, 1, 0x400_0000, 1);
+    locate(1, 0, 0xffff_ffff, 1, 0x400_0000, 1);
+    locate(1, 0, 0x400_0000, 0, 1, 1);
+    locate(0, 0, 0, 0, 0, 27);
+    locate(1, 4, 0, 0, 0, 27);
+    locate(1, 3, 0, 0, 0, 27);
+    locate(1, 3, 0, 0, 0, 26);
+}
+
+fn main() {
+    on_codes();
+    packing();
+    locating();
+}
