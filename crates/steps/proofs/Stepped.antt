@@ -1,0 +1,90 @@
+-- The step on codes has one answer, and the step of the cell gives it.
+-- Assumes nothing.
+use mathlib.Core.Bool.{Bool, true, false}
+use mathlib.Core.List.{List, map}
+use mathlib.Core.Path.{_≡_, refl, ap₂, sym, _∙_}
+use Prim.Native.Nat.{ℕ, _<_, _≤_}
+use native.Mathlib.Omega.{arith}
+use lib.ListN.{length, length-map}
+use Rattle.solids.specs.Triangles.{sideOf}
+use Rattle.solids.specs.Solids.{Solid, solidOf, nextFace, mirrored}
+use Rattle.solids.proofs.Numbers.{no-solid, faces-few}
+use Rattle.solids.proofs.Seams.{joined}
+use Rattle.refusals.specs.Refusals.{Single}
+use Rattle.refusals.specs.Answers.{done, refused}
+use Rattle.refusals.proofs.Refusals.{need-single}
+use Rattle.geometry.specs.Corners.{Digit}
+use Rattle.geometry.specs.Cells.{Cell, depthOf}
+use Rattle.geometry.specs.Steps.{walked, crosses, mirror, wayOf, way, moved, step}
+use Rattle.geometry.specs.Neighbours.{Neighbour}
+use Rattle.geometry.proofs.Across.{length-walked}
+use Rattle.geometry.proofs.Neighbours.{neighbour, one-neighbour}
+use Rattle.codes.specs.Codes as codes
+use Rattle.codes.specs.Codes.{solid, face, depth, Code, pathOf, cellOf, codeOf}
+use Rattle.codes.proofs.Faults.{code-single}
+use Rattle.codes.proofs.Codes.{code-formed, cell-code, cell-formed, cell-depth, cell-deep, one-code}
+use Rattle.steps.specs.Stepped.{Arrives, stepEnd, Stepped, stepCode}
+
+module _ (x s : ℕ) (c : Code x) where
+  pub across : Neighbour (sideOf s) (cellOf x) (step (sideOf s) (cellOf x))
+  across = neighbour (sideOf s) (cellOf x) (cell-formed x c)
+
+  deep : depthOf (step (sideOf s) (cellOf x)) ≤ 26
+  deep = rw (across .depth) (cell-deep x c)
+
+  pub step-code : Code (stepCode s x)
+  step-code = code-formed (step (sideOf s) (cellOf x)) (across .wellFormed) deep
+
+  pub step-cell : cellOf (stepCode s x) ≡ step (sideOf s) (cellOf x)
+  step-cell = cell-code (step (sideOf s) (cellOf x)) (across .wellFormed) deep
+
+  pub arrives : Arrives x s (done (stepCode s x))
+  arrives = record { number = refl; code = step-code; across = rw step-cell across }
+
+  -- a code that is a neighbour is the step's
+  pub one-step : (y : ℕ) → Code y → Neighbour (sideOf s) (cellOf x) (cellOf y) → y ≡ stepCode s x
+  one-step y k n = one-code y (stepCode s x) k step-code (one-neighbour (sideOf s) (cellOf x) (cellOf y) (cell-formed x c) n ∙ sym step-cell)
+
+  arrives-single : Single (Arrives x s)
+  arrives-single a b p q =
+      ap₂ (λ (m n : ℕ). record { number = m; value = n }) (p .number ∙ sym (q .number))
+      (one-step (a .value) (p .code) (p .across) ∙ sym (one-step (b .value) (q .code) (q .across)))
+
+pub stepped-single : (x s : ℕ) → Single (Stepped x s)
+stepped-single x s = code-single refused x (stepEnd x s) (λ c. need-single (λ h. arrives-single x s c))
+
+-- the step's code, by the way it goes
+module _ (x s : ℕ) (c : Code x) where
+  abbrev ds : List Digit
+  ds = cellOf x .path
+
+  abbrev so : Solid
+  so = solidOf (solid x)
+
+  by-way : (b m : Bool) → crosses (sideOf s) ds ≡ b → mirrored so (sideOf s) (face x) ≡ m → stepCode s x ≡ codeOf (moved (wayOf b m) (sideOf s) (cellOf x))
+  unfolding step way cellOf
+  by-way b m e f = ap₂ (λ (u v : Bool). codeOf (moved (wayOf u v) (sideOf s) (cellOf x))) e f
+
+  pub inside-code : crosses (sideOf s) ds ≡ false → stepCode s x ≡ codes.joined (solid x) (face x) (pathOf (walked (sideOf s) ds)) (depth x)
+  unfolding codeOf cellOf
+  inside-code e =
+      by-way false (mirrored so (sideOf s) (face x)) e refl
+      ∙ rw (no-solid (solid x) (c .known), length-walked (sideOf s) ds, cell-depth x)
+
+  pub straight-code : crosses (sideOf s) ds ≡ true → mirrored so (sideOf s) (face x) ≡ false →
+      stepCode s x ≡ codes.joined (solid x) (nextFace so (sideOf s) (face x)) (pathOf (walked (sideOf s) ds)) (depth x)
+  unfolding codeOf cellOf
+  straight-code e f =
+      by-way true false e f
+      ∙ rw (no-solid (solid x) (c .known), length-walked (sideOf s) ds, cell-depth x)
+
+  pub mirrored-code : crosses (sideOf s) ds ≡ true → mirrored so (sideOf s) (face x) ≡ true →
+      stepCode s x ≡ codes.joined (solid x) (nextFace so (sideOf s) (face x)) (pathOf (map mirror ds)) (depth x)
+  unfolding codeOf cellOf
+  mirrored-code e f =
+      by-way true true e f
+      ∙ rw (no-solid (solid x) (c .known), length-map ds mirror, cell-depth x)
+
+  -- the face across a seam fits its field
+  pub next-fits : nextFace so (sideOf s) (face x) < 32
+  next-fits = omega (arith, joined so (face x) (c .on) (sideOf s) .there, faces-few so)
