@@ -85,10 +85,10 @@ static void check_unpack(const char *what, uint64_t code, uint64_t number, uint6
 
     const int is_right = same_numbers(answer, expected, 7);
     count(is_right);
-    printf("unpack: %s is %" PRIu64 " with solid %" PRIu64 ", face %" PRIu64 ", path 0x%" PRIx64 ", depth %" PRIu64, what,
-           answer[0], answer[2], answer[3], answer[4], answer[5]);
+    printf("unpack: %s is %" PRIu64 " with solid %" PRIu64 ", face %" PRIu64 ", path 0x%" PRIx64 ", depth %" PRIu64,
+           what, answer[0], answer[2], answer[3], answer[4], answer[5]);
     if (!is_right) {
-        printf(", expected %" PRIu64 " with %" PRIu64 ", %" PRIu64 ", 0x%" PRIx64 ", %" PRIu64 " and nothing written beside",
+        printf(", expected %" PRIu64 " with %" PRIu64 ", %" PRIu64 ", 0x%" PRIx64 ", %" PRIu64 ", none written beside",
                number, solid, face, path, depth);
     }
     printf("\n");

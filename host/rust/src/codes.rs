@@ -47,12 +47,7 @@ pub fn unpack(code: u64) -> Result<Fields, Refusal> {
     let number = unsafe { c::urdinhosa_unpack(code, &mut fields) };
     let [solid, face, path, depth] = fields;
     match number {
-        0 => Ok(Fields {
-            solid,
-            face,
-            path,
-            depth,
-        }),
+        0 => Ok(Fields { solid, face, path, depth }),
         refused => Err(Refusal::of_number(refused)),
     }
 }

@@ -22,17 +22,7 @@ fn pack(parts: Parts) -> Result<u64, u64> {
 }
 
 fn unpack(code: u64) -> Result<Parts, u64> {
-    let parts_of = |urdinhosa::Fields {
-                        solid,
-                        face,
-                        path,
-                        depth,
-                    }| Parts {
-        solid,
-        face,
-        path,
-        depth,
-    };
+    let parts_of = |urdinhosa::Fields { solid, face, path, depth }| Parts { solid, face, path, depth };
     urdinhosa::unpack(code).map(parts_of).map_err(Refusal::number)
 }
 
@@ -45,29 +35,18 @@ fn child(code: u64, digit: u64) -> Result<u64, u64> {
 }
 
 /// What the C call answers, and everything that it leaves in room that held other numbers before: the wrapper does not
-/// show the fields of a refused code. Numbers beside the room must stay.
+/// show the fields of a refused code. The numbers before and after the room must stay.
 fn unpack_as_c_does(code: u64) -> (u64, [u64; 4]) {
-    const BEFORE: u64 = 0x5a5a_5a5a_5a5a_5a5a;
-    #[repr(C)]
-    struct Room {
-        guard_below: u64,
-        fields: [u64; 4],
-        guard_above: u64,
-    }
-    let mut room = Room {
-        guard_below: BEFORE,
-        fields: [BEFORE; 4],
-        guard_above: BEFORE,
+    const OLD: u64 = 0x5a5a_5a5a_5a5a_5a5a;
+    let mut room = [OLD; 6];
+    // SAFETY: the four numbers are the middle ones of our own six.
+    let number = unsafe {
+        let fields = room.as_mut_ptr().add(1).cast::<[u64; 4]>();
+        c::urdinhosa_unpack(code, fields)
     };
-    // SAFETY: the four numbers are our own.
-    let number = unsafe { c::urdinhosa_unpack(code, &mut room.fields) };
-    assert_eq!(
-        (room.guard_below, room.guard_above),
-        (BEFORE, BEFORE),
-        "unpack of {:#018x} writes beside its room",
-        code
-    );
-    (number, room.fields)
+    let [before, solid, face, path, depth, after] = room;
+    assert_eq!((before, after), (OLD, OLD), "unpack of {:#018x} writes beside its room", code);
+    (number, [solid, face, path, depth])
 }
 
 // ---------------------------------------------------------------------------------------------------------------------
@@ -75,23 +54,14 @@ fn unpack_as_c_does(code: u64) -> (u64, [u64; 4]) {
 
 /// Compares unpack on one number; answers the model's number, 0 when it is not refused.
 fn compare_unpack(code: u64) -> u64 {
-    let expected = match codes::unpack(code) {
-        Ok(Parts {
-            solid,
-            face,
-            path,
-            depth,
-        }) => (0, [solid, face, path, depth]),
+    let expected = codes::unpack(code);
+    let (number, fields) = match expected {
+        Ok(Parts { solid, face, path, depth }) => (0, [solid, face, path, depth]),
         Err(refused) => (refused, [0; 4]),
     };
-    assert_eq!(unpack_as_c_does(code), expected, "unpack of {:#018x} by C", code);
-    assert_eq!(
-        unpack(code),
-        codes::unpack(code),
-        "unpack of {:#018x} by the wrapper",
-        code
-    );
-    expected.0
+    assert_eq!(unpack_as_c_does(code), (number, fields), "unpack of {:#018x} by C", code);
+    assert_eq!(unpack(code), expected, "unpack of {:#018x} by the wrapper", code);
+    number
 }
 
 fn compare_parent(code: u64) {
@@ -99,13 +69,7 @@ fn compare_parent(code: u64) {
 }
 
 fn compare_child(code: u64, digit: u64) {
-    assert_eq!(
-        child(code, digit),
-        codes::child(code, digit),
-        "child {} of {:#018x}",
-        digit,
-        code
-    );
+    assert_eq!(child(code, digit), codes::child(code, digit), "child {} of {:#018x}", digit, code);
 }
 
 /// Compares every call that takes a code; answers the number that the model's unpack has.
@@ -136,11 +100,7 @@ impl Tally {
 
     fn assert_each_at_least(&self, times: u64, numbers: std::ops::RangeInclusive<usize>) {
         let often = numbers.clone().all(|number| self.0[number] >= times);
-        assert!(
-            often,
-            "numbers {:?} not met {} times each, but {:?}",
-            numbers, times, self.0
-        );
+        assert!(often, "numbers {:?} not met {} times each, but {:?}", numbers, times, self.0);
     }
 }
 
@@ -155,12 +115,7 @@ fn cells_to_depth(deepest: u64) -> impl Iterator<Item = Cell> {
 fn every_cell_to_depth_4_has_the_code_of_the_model() {
     let mut count = 0;
     for cell in cells_to_depth(DEPTH_OF_ALL_CELLS) {
-        assert_eq!(
-            pack(codes::parts_of(&cell)),
-            Ok(codes::code_of(&cell)),
-            "pack of {:?}",
-            cell
-        );
+        assert_eq!(pack(codes::parts_of(&cell)), Ok(codes::code_of(&cell)), "pack of {:?}", cell);
         count += 1;
     }
     assert_eq!(count, (4 + 8 + 20) * (1 + 4 + 16 + 64 + 256));
@@ -195,12 +150,7 @@ fn unpack_undoes_pack_and_pack_undoes_unpack() {
         let parts = codes::parts_of(&cell);
         let code = pack(parts).unwrap_or_else(|number| panic!("pack of {:?} is refused by {}", parts, number));
         assert_eq!(unpack(code), Ok(parts), "unpack of {:#018x}", code);
-        assert_eq!(
-            unpack(code).and_then(pack),
-            Ok(code),
-            "pack of unpack of {:#018x}",
-            code
-        );
+        assert_eq!(unpack(code).and_then(pack), Ok(code), "pack of unpack of {:#018x}", code);
     }
 }
 
@@ -219,12 +169,7 @@ fn no_code_is_below_two_to_the_62() {
 #[test]
 fn the_code_printed_in_bench_case_1_has_the_parts_of_its_bits() {
     // ce96.. is 11 00111 010010110..: icosahedron, face 7, digits 01 00 10 11 00 00
-    let parts = Parts {
-        solid: 3,
-        face: 7,
-        path: 0b01_00_10_11 << 44,
-        depth: 6,
-    };
+    let parts = Parts { solid: 3, face: 7, path: 0b01_00_10_11 << 44, depth: 6 };
     assert_eq!(unpack(0xce96_0000_0000_0006), Ok(parts));
     assert_eq!(pack(parts), Ok(0xce96_0000_0000_0006));
 }
@@ -236,12 +181,7 @@ fn the_digits_fill_the_path_from_bits_56_and_55_down() {
         let bits_above = code - (depth - 1);
         code = child(code, 3).unwrap_or_else(|number| panic!("child of depth {} is refused by {}", depth, number));
         let digit_place = 57 - 2 * depth;
-        assert_eq!(
-            code,
-            bits_above + (0b11 << digit_place) + depth,
-            "child 11 of depth {}",
-            depth
-        );
+        assert_eq!(code, bits_above + (0b11 << digit_place) + depth, "child 11 of depth {}", depth);
     }
     assert_eq!(code, 0x41ff_ffff_ffff_fffa);
 }
@@ -262,14 +202,7 @@ fn each_solid_face_depth_and_single_path_bit_is_packed_or_refused_as_by_the_mode
     for solid in 0..=4 {
         for face in 0..=33 {
             for depth in 0..=33 {
-                numbers.extend(paths.iter().map(|&path| {
-                    compare_pack(Parts {
-                        solid,
-                        face,
-                        path,
-                        depth,
-                    })
-                }));
+                numbers.extend(paths.iter().map(|&path| compare_pack(Parts { solid, face, path, depth })));
             }
         }
     }
@@ -295,25 +228,10 @@ fn a_bit_just_after_the_last_digit_is_tail_and_the_bit_before_it_is_not() {
         let bits_after_the_digits = 52 - 2 * depth;
         if depth < 26 {
             let path = 1 << (bits_after_the_digits - 1);
-            assert_eq!(
-                pack(Parts {
-                    solid: 3,
-                    face: 19,
-                    path,
-                    depth
-                }),
-                Err(TAIL),
-                "depth {}",
-                depth
-            );
+            assert_eq!(pack(Parts { solid: 3, face: 19, path, depth }), Err(TAIL), "depth {}", depth);
         }
         if depth > 0 {
-            let parts = Parts {
-                solid: 3,
-                face: 19,
-                path: 1 << bits_after_the_digits,
-                depth,
-            };
+            let parts = Parts { solid: 3, face: 19, path: 1 << bits_after_the_digits, depth };
             assert_eq!(pack(parts).and_then(unpack), Ok(parts), "depth {}", depth);
         }
     }
@@ -328,28 +246,8 @@ fn the_greatest_number_is_refused_for_its_face() {
 fn the_last_face_of_each_solid_is_fine_and_the_one_after_it_is_face() {
     for solid in SOLIDS {
         let count = solids::number_of_faces(solid);
-        assert!(
-            pack(Parts {
-                solid,
-                face: count - 1,
-                path: 0,
-                depth: 0
-            })
-            .is_ok(),
-            "solid {}",
-            solid
-        );
-        assert_eq!(
-            pack(Parts {
-                solid,
-                face: count,
-                path: 0,
-                depth: 0
-            }),
-            Err(FACE),
-            "solid {}",
-            solid
-        );
+        assert!(pack(Parts { solid, face: count - 1, path: 0, depth: 0 }).is_ok(), "solid {}", solid);
+        assert_eq!(pack(Parts { solid, face: count, path: 0, depth: 0 }), Err(FACE), "solid {}", solid);
     }
 }
 
@@ -455,38 +353,14 @@ fn a_good_number_with_any_bit_above_its_field_added_is_refused() {
     for _ in 0..2_000 {
         let good = codes::parts_of(&random.cell());
         for added in (2..64).map(|bit| 1 << bit) {
-            assert_eq!(
-                compare_pack(Parts {
-                    solid: good.solid + added,
-                    ..good
-                }),
-                SOLID
-            );
+            assert_eq!(compare_pack(Parts { solid: good.solid + added, ..good }), SOLID);
         }
         for added in (5..64).map(|bit| 1 << bit) {
-            assert_eq!(
-                compare_pack(Parts {
-                    face: good.face + added,
-                    ..good
-                }),
-                FACE
-            );
-            assert_eq!(
-                compare_pack(Parts {
-                    depth: good.depth + added,
-                    ..good
-                }),
-                DEPTH
-            );
+            assert_eq!(compare_pack(Parts { face: good.face + added, ..good }), FACE);
+            assert_eq!(compare_pack(Parts { depth: good.depth + added, ..good }), DEPTH);
         }
         for added in (52..64).map(|bit| 1 << bit) {
-            assert_eq!(
-                compare_pack(Parts {
-                    path: good.path + added,
-                    ..good
-                }),
-                TAIL
-            );
+            assert_eq!(compare_pack(Parts { path: good.path + added, ..good }), TAIL);
         }
     }
 }
@@ -504,13 +378,7 @@ fn the_parent_of_each_child_is_the_cell() {
     for cell in cells_to_depth(DEPTH_OF_ALL_CELLS).chain(random_cells) {
         let code = codes::code_of(&cell);
         for digit in 0..4 {
-            assert_eq!(
-                child(code, digit).and_then(parent),
-                Ok(code),
-                "parent of child {} of {:#018x}",
-                digit,
-                code
-            );
+            assert_eq!(child(code, digit).and_then(parent), Ok(code), "parent of child {} of {:#018x}", digit, code);
         }
     }
 }
@@ -522,28 +390,16 @@ fn each_cell_is_a_child_of_its_parent() {
         let depth = 1 + random.below(DEEPEST);
         let code = codes::code_of(&random.cell_of_depth(depth));
         let siblings = (0..4).map(|digit| parent(code).and_then(|above| child(above, digit)));
-        assert_eq!(
-            siblings.filter(|&sibling| sibling == Ok(code)).count(),
-            1,
-            "children of parent of {:#018x}",
-            code
-        );
+        assert_eq!(siblings.filter(|&sibling| sibling == Ok(code)).count(), 1, "children of parent of {:#018x}", code);
     }
 }
 
 /// The cells of a depth by their corners; two cells of one solid never have the same three.
 fn codes_by_corners(depth: u64) -> HashMap<(u64, Corners), u64> {
     let cells = codes::cells_of_depth(depth);
-    let by_corners: HashMap<_, _> = cells
-        .iter()
-        .map(|cell| ((cell.solid, corners::of_cell(cell)), codes::code_of(cell)))
-        .collect();
-    assert_eq!(
-        by_corners.len(),
-        cells.len(),
-        "cells of depth {} with the same corners",
-        depth
-    );
+    let by_corners: HashMap<_, _> =
+        cells.iter().map(|cell| ((cell.solid, corners::of_cell(cell)), codes::code_of(cell))).collect();
+    assert_eq!(by_corners.len(), cells.len(), "cells of depth {} with the same corners", depth);
     by_corners
 }
 
@@ -572,25 +428,14 @@ fn deep_children_have_the_corners_of_their_row_in_the_table() {
         for digit in 0..4 {
             let child_cell = child(code, digit).and_then(codes::check);
             let row = corners::of_child(&corners::of_cell(&cell), digit);
-            assert_eq!(
-                child_cell.map(|cell| corners::of_cell(&cell)),
-                Ok(row),
-                "child {} of {:#018x}",
-                digit,
-                code
-            );
+            assert_eq!(child_cell.map(|cell| corners::of_cell(&cell)), Ok(row), "child {} of {:#018x}", digit, code);
         }
     }
 }
 
 #[test]
 fn the_children_of_tetrahedron_face_0_are_the_leaves_of_the_printed_listing() {
-    let printed = [
-        0x4000_0000_0000_0001,
-        0x4080_0000_0000_0001,
-        0x4100_0000_0000_0001,
-        0x4180_0000_0000_0001,
-    ];
+    let printed = [0x4000_0000_0000_0001, 0x4080_0000_0000_0001, 0x4100_0000_0000_0001, 0x4180_0000_0000_0001];
     for (digit, leaf) in (0..).zip(printed) {
         assert_eq!(child(0x4000_0000_0000_0000, digit), Ok(leaf), "child {}", digit);
         assert_eq!(parent(leaf), Ok(0x4000_0000_0000_0000), "parent of {:#018x}", leaf);
@@ -615,12 +460,7 @@ fn ancestors_below(code: u64) -> u64 {
 #[test]
 fn the_ancestors_of_every_code_to_depth_5_are_below_it() {
     for cell in cells_to_depth(5) {
-        assert_eq!(
-            ancestors_below(codes::code_of(&cell)),
-            cell.digits.len() as u64,
-            "ancestors of {:?}",
-            cell
-        );
+        assert_eq!(ancestors_below(codes::code_of(&cell)), cell.digits.len() as u64, "ancestors of {:?}", cell);
     }
 }
 
@@ -653,75 +493,19 @@ fn descendants_by_the_first_digit_only_are_above_their_cell() {
 fn bench_case_7_code_0_is_solid_octahedron_face_8_is_face_and_7_is_fine() {
     assert_eq!(unpack(0), Err(1));
     assert_eq!(unpack(0x9000_0000_0000_0000), Err(2));
-    assert_eq!(
-        pack(Parts {
-            solid: 2,
-            face: 8,
-            path: 0,
-            depth: 0
-        }),
-        Err(2)
-    );
-    assert_eq!(
-        unpack(0x8e00_0000_0000_0000),
-        Ok(Parts {
-            solid: 2,
-            face: 7,
-            path: 0,
-            depth: 0
-        })
-    );
-    assert_eq!(
-        pack(Parts {
-            solid: 2,
-            face: 7,
-            path: 0,
-            depth: 0
-        }),
-        Ok(0x8e00_0000_0000_0000)
-    );
+    assert_eq!(pack(Parts { solid: 2, face: 8, path: 0, depth: 0 }), Err(2));
+    assert_eq!(unpack(0x8e00_0000_0000_0000), Ok(Parts { solid: 2, face: 7, path: 0, depth: 0 }));
+    assert_eq!(pack(Parts { solid: 2, face: 7, path: 0, depth: 0 }), Ok(0x8e00_0000_0000_0000));
 }
 
 #[test]
 fn bench_case_8_depth_27_is_depth_26_is_fine_and_a_bit_after_the_last_digit_is_tail() {
     assert_eq!(unpack(0x4000_0000_0000_001b), Err(3));
-    assert_eq!(
-        pack(Parts {
-            solid: 1,
-            face: 0,
-            path: 0,
-            depth: 27
-        }),
-        Err(3)
-    );
-    assert_eq!(
-        unpack(0x4000_0000_0000_001a),
-        Ok(Parts {
-            solid: 1,
-            face: 0,
-            path: 0,
-            depth: 26
-        })
-    );
-    assert_eq!(
-        pack(Parts {
-            solid: 1,
-            face: 0,
-            path: 0,
-            depth: 26
-        }),
-        Ok(0x4000_0000_0000_001a)
-    );
+    assert_eq!(pack(Parts { solid: 1, face: 0, path: 0, depth: 27 }), Err(3));
+    assert_eq!(unpack(0x4000_0000_0000_001a), Ok(Parts { solid: 1, face: 0, path: 0, depth: 26 }));
+    assert_eq!(pack(Parts { solid: 1, face: 0, path: 0, depth: 26 }), Ok(0x4000_0000_0000_001a));
     assert_eq!(unpack(0x4000_0000_0000_0020), Err(4));
-    assert_eq!(
-        pack(Parts {
-            solid: 1,
-            face: 0,
-            path: 1,
-            depth: 0
-        }),
-        Err(4)
-    );
+    assert_eq!(pack(Parts { solid: 1, face: 0, path: 1, depth: 0 }), Err(4));
 }
 
 // ---------------------------------------------------------------------------------------------------------------------
@@ -729,65 +513,17 @@ fn bench_case_8_depth_27_is_depth_26_is_fine_and_a_bit_after_the_last_digit_is_t
 
 #[test]
 fn numbers_wider_than_their_field_are_tested_whole() {
-    assert_eq!(
-        pack(Parts {
-            solid: 257,
-            face: 0,
-            path: 0,
-            depth: 0
-        }),
-        Err(1)
-    );
-    assert_eq!(
-        pack(Parts {
-            solid: 1,
-            face: 32,
-            path: 0,
-            depth: 0
-        }),
-        Err(2)
-    );
-    assert_eq!(
-        pack(Parts {
-            solid: 1,
-            face: 0,
-            path: 0,
-            depth: 32
-        }),
-        Err(3)
-    );
+    assert_eq!(pack(Parts { solid: 257, face: 0, path: 0, depth: 0 }), Err(1));
+    assert_eq!(pack(Parts { solid: 1, face: 32, path: 0, depth: 0 }), Err(2));
+    assert_eq!(pack(Parts { solid: 1, face: 0, path: 0, depth: 32 }), Err(3));
     assert_eq!(child(0x4000_0000_0000_0000, 256), Err(6));
 }
 
 #[test]
 fn a_path_bit_above_the_52_is_tail_and_is_asked_last() {
-    assert_eq!(
-        pack(Parts {
-            solid: 1,
-            face: 4,
-            path: 1 << 52,
-            depth: 27
-        }),
-        Err(2)
-    );
-    assert_eq!(
-        pack(Parts {
-            solid: 1,
-            face: 3,
-            path: 1 << 52,
-            depth: 27
-        }),
-        Err(3)
-    );
-    assert_eq!(
-        pack(Parts {
-            solid: 1,
-            face: 3,
-            path: 1 << 52,
-            depth: 26
-        }),
-        Err(4)
-    );
+    assert_eq!(pack(Parts { solid: 1, face: 4, path: 1 << 52, depth: 27 }), Err(2));
+    assert_eq!(pack(Parts { solid: 1, face: 3, path: 1 << 52, depth: 27 }), Err(3));
+    assert_eq!(pack(Parts { solid: 1, face: 3, path: 1 << 52, depth: 26 }), Err(4));
 }
 
 #[test]
@@ -805,12 +541,8 @@ fn digit_is_asked_before_deep() {
 
 #[test]
 fn a_refused_unpack_answers_zero_in_every_part() {
-    let one_of_each_cause = [
-        0x3fff_ffff_ffff_ffff,
-        0x5fff_ffff_ffff_ffff,
-        0x47ff_ffff_ffff_ffff,
-        0x47ff_ffff_ffff_fff9,
-    ];
+    let one_of_each_cause =
+        [0x3fff_ffff_ffff_ffff, 0x5fff_ffff_ffff_ffff, 0x47ff_ffff_ffff_ffff, 0x47ff_ffff_ffff_fff9];
     for (number, code) in (1..).zip(one_of_each_cause) {
         assert_eq!(unpack_as_c_does(code), (number, [0; 4]), "unpack of {:#018x}", code);
     }
@@ -819,19 +551,8 @@ fn a_refused_unpack_answers_zero_in_every_part() {
 #[test]
 fn unpack_answers_the_path_as_pack_takes_it_with_the_first_digit_on_top() {
     // digits 01, 10: not in their place in the code (0x01 << 55), not as the number 0b0110
-    assert_eq!(
-        unpack(0x40c0_0000_0000_0002),
-        Ok(Parts {
-            solid: 1,
-            face: 0,
-            path: 0b0110 << 48,
-            depth: 2
-        })
-    );
-    assert_eq!(
-        unpack_as_c_does(0x40c0_0000_0000_0002),
-        (0, [1, 0, 0x6_0000_0000_0000, 2])
-    );
+    assert_eq!(unpack(0x40c0_0000_0000_0002), Ok(Parts { solid: 1, face: 0, path: 0b0110 << 48, depth: 2 }));
+    assert_eq!(unpack_as_c_does(0x40c0_0000_0000_0002), (0, [1, 0, 0x6_0000_0000_0000, 2]));
 }
 
 // ---------------------------------------------------------------------------------------------------------------------
@@ -841,37 +562,17 @@ fn unpack_answers_the_path_as_pack_takes_it_with_the_first_digit_on_top() {
 fn the_models_faces_close_each_solid() {
     for solid in SOLIDS {
         let faces = solids::faces(solid);
-        assert_eq!(
-            faces.len() as u64,
-            solids::number_of_faces(solid),
-            "faces of solid {}",
-            solid
-        );
+        assert_eq!(faces.len() as u64, solids::number_of_faces(solid), "faces of solid {}", solid);
         let mut faces_at_edge = HashMap::new();
         for [tip, left, right] in faces.iter().copied() {
             for (a, b) in [(tip, left), (tip, right), (left, right)] {
                 *faces_at_edge.entry((a.min(b), a.max(b))).or_insert(0) += 1;
             }
         }
-        assert!(
-            faces_at_edge.values().all(|&count| count == 2),
-            "edges of solid {}: {:?}",
-            solid,
-            faces_at_edge
-        );
+        assert!(faces_at_edge.values().all(|&count| count == 2), "edges of solid {}: {:?}", solid, faces_at_edge);
         let vertices: HashSet<_> = faces.iter().flatten().collect();
-        assert_eq!(
-            vertices.len(),
-            solids::number_of_vertices(solid),
-            "vertices of solid {}",
-            solid
-        );
-        assert_eq!(
-            vertices.len() + faces.len(),
-            faces_at_edge.len() + 2,
-            "Euler's sum of solid {}",
-            solid
-        );
+        assert_eq!(vertices.len(), solids::number_of_vertices(solid), "vertices of solid {}", solid);
+        assert_eq!(vertices.len() + faces.len(), faces_at_edge.len() + 2, "Euler's sum of solid {}", solid);
     }
 }
 

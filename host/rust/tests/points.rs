@@ -15,24 +15,14 @@ const HALF: u64 = WHOLE / 2;
 // Comparing library and model on one input
 
 fn locate(point: Point, depth: u64) -> Result<u64, u64> {
-    let Point {
-        solid,
-        face,
-        weights: [t, l, r],
-    } = point;
+    let Point { solid, face, weights: [t, l, r] } = point;
     urdinhosa::locate(solid, face, t, l, r, depth).map_err(Refusal::number)
 }
 
 /// Compares with the model's descent; answers its number, 0 when it is not refused.
 fn compare_locate(point: Point, depth: u64) -> u64 {
     let expected = points::locate(point, depth);
-    assert_eq!(
-        locate(point, depth),
-        expected,
-        "locate of {:?} at depth {}",
-        point,
-        depth
-    );
+    assert_eq!(locate(point, depth), expected, "locate of {:?} at depth {}", point, depth);
     expected.err().unwrap_or(0)
 }
 
@@ -74,11 +64,7 @@ fn random_face(random: &mut Random) -> (u64, u64) {
 
 fn random_point(random: &mut Random) -> Point {
     let (solid, face) = random_face(random);
-    Point {
-        solid,
-        face,
-        weights: random_weights(random),
-    }
+    Point { solid, face, weights: random_weights(random) }
 }
 
 // ---------------------------------------------------------------------------------------------------------------------
@@ -110,13 +96,7 @@ fn assert_digits_are_met(times_met: &[[u64; 4]; DEEPEST as usize], often: u64) {
             if level + 1 == DEEPEST as usize && digit == 0b10 {
                 assert_eq!(times, 0, "digit 10 at the last level");
             } else {
-                assert!(
-                    times >= often,
-                    "digit {} is met only {} times at level {}",
-                    digit,
-                    times,
-                    level + 1
-                );
+                assert!(times >= often, "digit {} is met only {} times at level {}", digit, times, level + 1);
             }
         }
     }
@@ -140,9 +120,7 @@ fn points_at_and_beside_the_halves_are_located_on_every_face_as_by_the_models_de
 fn weights_from(list: &[u64]) -> Vec<[u64; 3]> {
     let pairs = list.iter().flat_map(|&a| list.iter().map(move |&b| (a, b)));
     let fitting = pairs.filter(|(a, b)| a + b <= WHOLE);
-    fitting
-        .flat_map(|(a, b)| [[a, b, WHOLE - a - b], [a, WHOLE - a - b, b], [WHOLE - a - b, a, b]])
-        .collect()
+    fitting.flat_map(|(a, b)| [[a, b, WHOLE - a - b], [a, WHOLE - a - b, b], [WHOLE - a - b, a, b]]).collect()
 }
 
 #[test]
@@ -152,13 +130,7 @@ fn the_cell_located_a_level_higher_is_the_parent() {
         let point = random_point(&mut random);
         for depth in 1..=DEEPEST {
             let parent_of_located = locate(point, depth).ok().and_then(|code| urdinhosa::parent(code).ok());
-            assert_eq!(
-                parent_of_located,
-                locate(point, depth - 1).ok(),
-                "{:?} at depth {}",
-                point,
-                depth
-            );
+            assert_eq!(parent_of_located, locate(point, depth - 1).ok(), "{:?} at depth {}", point, depth);
         }
     }
 }
@@ -170,9 +142,7 @@ fn the_cell_located_a_level_higher_is_the_parent() {
 fn weights_at_lines(depth: u64) -> Vec<u64> {
     let step = WHOLE >> depth;
     let at_lines = (0..=1 << depth).map(|line| line * step);
-    at_lines
-        .flat_map(|weight| [weight.saturating_sub(1), weight, (weight + 1).min(WHOLE)])
-        .collect()
+    at_lines.flat_map(|weight| [weight.saturating_sub(1), weight, (weight + 1).min(WHOLE)]).collect()
 }
 
 /// Locates points of a face that lie on lines of a depth or one beside them, at that depth and above, and compares
@@ -180,23 +150,13 @@ fn weights_at_lines(depth: u64) -> Vec<u64> {
 fn compare_with_all_cells_of_face(solid: u64, face: u64, deepest: u64) {
     for depth in 0..=deepest {
         let cells = codes::cells_of_face(solid, face, depth);
-        let triangles: Vec<(u64, Corners)> = cells
-            .iter()
-            .map(|cell| (codes::code_of(cell), corners::of_cell(cell)))
-            .collect();
+        let triangles: Vec<(u64, Corners)> =
+            cells.iter().map(|cell| (codes::code_of(cell), corners::of_cell(cell))).collect();
         for weights in weights_from(&weights_at_lines(deepest)) {
             let point = Point { solid, face, weights };
-            let holding = triangles
-                .iter()
-                .filter(|(_, corners)| points::weights_in(corners, &point).is_some());
+            let holding = triangles.iter().filter(|(_, corners)| points::weights_in(corners, &point).is_some());
             let least = holding.map(|&(code, _)| code).min();
-            assert_eq!(
-                locate(point, depth).ok(),
-                least,
-                "locate of {:?} at depth {}",
-                point,
-                depth
-            );
+            assert_eq!(locate(point, depth).ok(), least, "locate of {:?} at depth {}", point, depth);
         }
     }
 }
@@ -226,13 +186,7 @@ fn at_every_depth_the_located_cell_is_the_least_of_the_cells_that_hold_the_point
         for depth in 0..=DEEPEST {
             let holding = points::cells_that_hold(&point, depth);
             let least = holding.iter().map(codes::code_of).min();
-            assert_eq!(
-                locate(point, depth).ok(),
-                least,
-                "locate of {:?} at depth {}",
-                point,
-                depth
-            );
+            assert_eq!(locate(point, depth).ok(), least, "locate of {:?} at depth {}", point, depth);
             most_cells_at_a_point = most_cells_at_a_point.max(holding.len());
         }
     }
@@ -281,12 +235,7 @@ fn good_weights_with_two_tops_of_64_bits_added_are_point() {
         for untouched in 0..3 {
             let mut weights = good.weights.map(|weight| weight + (1 << 63));
             weights[untouched] = good.weights[untouched];
-            assert_eq!(
-                compare_locate(Point { weights, ..good }, DEEPEST),
-                POINT,
-                "{:x?}",
-                weights
-            );
+            assert_eq!(compare_locate(Point { weights, ..good }, DEEPEST), POINT, "{:x?}", weights);
         }
     }
 }
@@ -334,16 +283,7 @@ fn random_calls_with_some_numbers_at_edges_are_answered_as_by_the_model() {
 
 #[test]
 fn bench_case_13_ties_go_to_the_lower_digit() {
-    let at = |t, l, r| {
-        locate(
-            Point {
-                solid: 1,
-                face: 0,
-                weights: [t, l, r],
-            },
-            1,
-        )
-    };
+    let at = |t, l, r| locate(Point { solid: 1, face: 0, weights: [t, l, r] }, 1);
     assert_eq!(at(1 << 25, 1 << 25, 0), Ok(0x4000_0000_0000_0001));
     assert_eq!(at(0, 1 << 25, 1 << 25), Ok(0x4080_0000_0000_0001));
     assert_eq!(at((1 << 25) - 1, 1, 1 << 25), Ok(0x4100_0000_0000_0001));
@@ -354,32 +294,14 @@ fn bench_case_13_ties_go_to_the_lower_digit() {
 
 #[test]
 fn weights_are_summed_as_true_numbers() {
-    let at = |t, l, r| {
-        locate(
-            Point {
-                solid: 1,
-                face: 0,
-                weights: [t, l, r],
-            },
-            1,
-        )
-    };
+    let at = |t, l, r| locate(Point { solid: 1, face: 0, weights: [t, l, r] }, 1);
     assert_eq!(at((1 << 32) - 1, 1, 1 << 26), Err(9));
     assert_eq!(at(u64::MAX, 1, 1 << 26), Err(9));
 }
 
 #[test]
 fn a_points_solid_face_and_depth_wider_than_their_field_are_tested_whole() {
-    let at = |solid, face, depth| {
-        locate(
-            Point {
-                solid,
-                face,
-                weights: [WHOLE, 0, 0],
-            },
-            depth,
-        )
-    };
+    let at = |solid, face, depth| locate(Point { solid, face, weights: [WHOLE, 0, 0] }, depth);
     assert_eq!(at(257, 0, 0), Err(1));
     assert_eq!(at(1, 32, 0), Err(2));
     assert_eq!(at(1, 0, 32), Err(3));

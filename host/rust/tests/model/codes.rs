@@ -68,12 +68,7 @@ pub fn check(code: u64) -> Result<Cell, u64> {
 }
 
 pub fn code_of(cell: &Cell) -> u64 {
-    let Parts {
-        solid,
-        face,
-        path,
-        depth,
-    } = parts_of(cell);
+    let Parts { solid, face, path, depth } = parts_of(cell);
     ((solid * FACES_IN_FIVE_BITS + face) * PATHS_IN_52_BITS + path) * DEPTHS_IN_FIVE_BITS + depth
 }
 
@@ -103,25 +98,15 @@ pub fn check_solid_face_depth(solid: u64, face: u64, depth: u64) -> Result<(), u
 }
 
 /// What stands in the places of the four parts, well formed or not.
-pub fn parts_in(code: u64) -> Parts {
+fn parts_in(code: u64) -> Parts {
     let (rest, depth) = (code / DEPTHS_IN_FIVE_BITS, code % DEPTHS_IN_FIVE_BITS);
     let (rest, path) = (rest / PATHS_IN_52_BITS, rest % PATHS_IN_52_BITS);
     let (solid, face) = (rest / FACES_IN_FIVE_BITS, rest % FACES_IN_FIVE_BITS);
-    Parts {
-        solid,
-        face,
-        path,
-        depth,
-    }
+    Parts { solid, face, path, depth }
 }
 
 fn cell_of_parts(parts: Parts) -> Result<Cell, u64> {
-    let Parts {
-        solid,
-        face,
-        path,
-        depth,
-    } = parts;
+    let Parts { solid, face, path, depth } = parts;
     check_solid_face_depth(solid, face, depth)?;
     if path >= PATHS_IN_52_BITS {
         return Err(TAIL);
@@ -160,10 +145,6 @@ fn with_each_digit_after(digits: &Vec<u64>) -> Vec<Vec<u64>> {
 
 /// Every cell of every solid at a depth.
 pub fn cells_of_depth(depth: u64) -> Vec<Cell> {
-    let faces = solids::SOLIDS
-        .iter()
-        .flat_map(|&solid| (0..solids::number_of_faces(solid)).map(move |face| (solid, face)));
-    faces
-        .flat_map(|(solid, face)| cells_of_face(solid, face, depth))
-        .collect()
+    let of_solid = |solid| (0..solids::number_of_faces(solid)).flat_map(move |face| cells_of_face(solid, face, depth));
+    solids::SOLIDS.into_iter().flat_map(of_solid).collect()
 }

@@ -19,18 +19,12 @@ pub fn of_face(solid: u64, face: u64) -> Corners {
 
 pub fn of_cell(cell: &Cell) -> Corners {
     let face = of_face(cell.solid, cell.face);
-    cell.digits
-        .iter()
-        .fold(face, |corners, &digit| of_child(&corners, digit))
+    cell.digits.iter().fold(face, |corners, &digit| of_child(&corners, digit))
 }
 
 /// The table of children, by sums of lists.
 pub fn of_child(of: &Corners, digit: u64) -> Corners {
-    let Corners {
-        tip: t,
-        left: l,
-        right: r,
-    } = of;
+    let Corners { tip: t, left: l, right: r } = of;
     let (tip, left, right) = match digit {
         0b00 => (sum(t, t), sum(t, l), sum(t, r)),
         0b01 => (sum(t, l), sum(l, l), sum(l, r)),

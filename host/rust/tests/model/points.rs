@@ -31,11 +31,7 @@ pub fn locate(point: Point, depth: u64) -> Result<u64, u64> {
         weights = weights_below;
         sum = half;
     }
-    Ok(codes::code_of(&Cell {
-        solid: point.solid,
-        face: point.face,
-        digits,
-    }))
+    Ok(codes::code_of(&Cell { solid: point.solid, face: point.face, digits }))
 }
 
 fn true_sum(weights: [u64; 3]) -> u128 {
@@ -66,22 +62,19 @@ pub fn over_vertices(point: &Point) -> Weights {
 /// The whole weights at tip, left and right that give the point from the corners of a cell of its face, if the closed
 /// triangle holds it.
 ///
-/// The point is a crossing of the lines of depth 26, and no cell is deeper: so what solves the three equations is whole.
+/// The point is a crossing of the lines of depth 26, and no cell is deeper: so what solves the three equations is
+/// whole.
 pub fn weights_in(corners: &Corners, point: &Point) -> Option<[u64; 3]> {
     let vertices = face_vertices(point);
     let on_the_face = |weights: &Weights| vertices.map(|vertex| i128::from(weights[vertex]));
     let [tip, left, right] = [&corners.tip, &corners.left, &corners.right].map(on_the_face);
     let wanted = point.weights.map(i128::from);
     let all = determinant(tip, left, right);
-    let solved = [
-        determinant(wanted, left, right),
-        determinant(tip, wanted, right),
-        determinant(tip, left, wanted),
-    ]
-    .map(|part| {
-        assert_eq!(part % all, 0, "{:?} has no whole weights in {:?}", point, corners);
-        part / all
-    });
+    let solved = [determinant(wanted, left, right), determinant(tip, wanted, right), determinant(tip, left, wanted)]
+        .map(|part| {
+            assert_eq!(part % all, 0, "{:?} has no whole weights in {:?}", point, corners);
+            part / all
+        });
     let none_is_negative = solved.iter().all(|&weight| weight >= 0);
     none_is_negative.then(|| solved.map(|weight| weight as u64))
 }
@@ -89,17 +82,10 @@ pub fn weights_in(corners: &Corners, point: &Point) -> Option<[u64; 3]> {
 /// Every cell of the point's face and a depth whose closed triangle holds the point. A triangle holds what its
 /// children hold, so only cells that hold the point are looked into.
 pub fn cells_that_hold(point: &Point, depth: u64) -> Vec<Cell> {
-    let face = Cell {
-        solid: point.solid,
-        face: point.face,
-        digits: Vec::new(),
-    };
+    let face = Cell { solid: point.solid, face: point.face, digits: Vec::new() };
     let mut holding = vec![(face, corners::of_face(point.solid, point.face))];
     for _ in 0..depth {
-        holding = holding
-            .iter()
-            .flat_map(|cell| children_that_hold(cell, point))
-            .collect();
+        holding = holding.iter().flat_map(|cell| children_that_hold(cell, point)).collect();
     }
     holding.into_iter().map(|(cell, _)| cell).collect()
 }
@@ -109,9 +95,7 @@ fn children_that_hold((cell, of): &(Cell, Corners), point: &Point) -> Vec<(Cell,
         let digits = [cell.digits.as_slice(), &[digit]].concat();
         (Cell { digits, ..*cell }, corners::of_child(of, digit))
     });
-    children
-        .filter(|(_, corners)| weights_in(corners, point).is_some())
-        .collect()
+    children.filter(|(_, corners)| weights_in(corners, point).is_some()).collect()
 }
 
 fn face_vertices(point: &Point) -> [usize; 3] {

@@ -28,11 +28,7 @@ pub fn number_of_vertices(solid: u64) -> usize {
 pub fn faces(solid: u64) -> Vec<[usize; 3]> {
     match solid {
         TETRAHEDRON => vec![[2, 0, 1], [1, 2, 3], [3, 1, 0], [0, 3, 2]],
-        OCTAHEDRON => [
-            ring(4, |i, next| [0, 1 + i, 1 + next]),
-            ring(4, |i, next| [5, 1 + i, 1 + next]),
-        ]
-        .concat(),
+        OCTAHEDRON => [ring(4, |i, next| [0, 1 + i, 1 + next]), ring(4, |i, next| [5, 1 + i, 1 + next])].concat(),
         ICOSAHEDRON => [
             ring(5, |i, next| [0, 1 + i, 1 + next]),
             ring(5, |i, next| [6 + i, 1 + i, 1 + next]),
