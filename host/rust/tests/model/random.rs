@@ -1,0 +1,56 @@
+//! Random numbers that are the same in every run (splitmix64), and random cells.
+
+use super::codes::{Cell, DEEPEST};
+use super::solids;
+
+pub struct Random {
+    state: u64,
+}
+
+impl Random {
+    pub fn with_seed(seed: u64) -> Random {
+        Random { state: seed }
+    }
+
+    /// Any number of 64 bits.
+    pub fn number(&mut self) -> u64 {
+        self.state = self.state.wrapping_add(0x9e37_79b9_7f4a_7c15);
+        let mixed = (self.state ^ (self.state >> 30)).wrapping_mul(0xbf58_476d_1ce4_e5b9);
+        let mixed = (mixed ^ (mixed >> 27)).wrapping_mul(0x94d0_49bb_1331_11eb);
+        mixed ^ (mixed >> 31)
+    }
+
+    pub fn below(&mut self, limit: u64) -> u64 {
+        self.number() % limit
+    }
+
+    pub fn one_of<T: Copy>(&mut self, choices: &[T]) -> T {
+        choices[self.below(choices.len() as u64) as usize]
+    }
+
+    /// A cell of any solid, face and depth.
+    pub fn cell(&mut self) -> Cell {
+        let depth = self.below(DEEPEST + 1);
+        self.cell_of_depth(depth)
+    }
+
+    /// A cell of any solid and face.
+    pub fn cell_of_depth(&mut self, depth: u64) -> Cell {
+        let solid = self.one_of(&solids::SOLIDS);
+        let face = self.below(solids::number_of_faces(solid));
+        let digits = (0..depth).map(|_| self.below(4)).collect();
+        Cell { solid, face, digits }
+    }
+
+    /// A number at or near the places where a limit, a field or a machine word ends.
+    pub fn number_at_an_edge(&mut self) -> u64 {
+        let power = 1 << self.below(64);
+        let offset = self.below(33);
+        match self.below(4) {
+            0 => offset,
+            1 => power,
+            2 => u64::wrapping_add(power, offset),
+            _ => u64::wrapping_sub(power, offset),
+        }
+    }
+}
