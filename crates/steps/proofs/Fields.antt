@@ -40,8 +40,9 @@ module _ (x : ℕ) where
       let p : ℕ = path x in
       let q : ℕ = new / 2 ^ 12 in
       let z : ℕ = bitXor p q in
-      let d : bitXor old new ≡ z * 2 ^ 12 + 0 =
-      ap₂ bitXor (e ∙ omega arith) (omega arith) ∙ xor-block 12 p q 0 0 (lit< tt) (lit< tt) in
+      let eo : old ≡ p * 2 ^ 12 + 0 = omega arith in
+      let en : new ≡ q * 2 ^ 12 + 0 = omega arith in
+      let d : bitXor old new ≡ z * 2 ^ 12 + 0 = ap₂ bitXor eo en ∙ xor-block 12 p q 0 0 (lit< tt) (lit< tt) in
       let s : bitXor old new / 2 ^ 7 ≡ z * 2 ^ 5 + 0 = ap (λ (m : ℕ). m / 2 ^ 7) d ∙ omega arith in
       let ex : x ≡ (x / 2 ^ 57 * 2 ^ 52 + p) * 2 ^ 5 + x % 2 ^ 5 = omega arith in
       let ez : z ≡ 0 * 2 ^ 52 + z = omega arith in
@@ -52,13 +53,23 @@ module _ (x : ℕ) where
       ap₂ bitXor ex s ∙ xor-block 5 (x / 2 ^ 57 * 2 ^ 52 + p) z (x % 2 ^ 5) 0 (mod-lt x (pow-pos 5)) (lit< tt)
       ∙ ap₂ (λ (a c : ℕ). a * 2 ^ 5 + c) b (xor-zero-r (x % 2 ^ 5)) ∙ omega arith
 
-  kept : bitAnd x 0xc000_0000_0000_001f ≡ (x / 2 ^ 62 * 32) * 2 ^ 57 + x % 2 ^ 5
-  kept =
+  kept : x < 2 ^ 64 → bitAnd x 0xc000_0000_0000_001f ≡ (x / 2 ^ 62 * 32) * 2 ^ 57 + x % 2 ^ 5
+  kept h =
       ap (λ (n : ℕ). bitAnd n 0xc000_0000_0000_001f) (sym (split x 62)) ∙ and-block 62 (x / 2 ^ 62) 3 (x % 2 ^ 62) 31 (mod-lt x (pow-pos 62)) (lit< tt)
       ∙ ap₂ (λ (a b : ℕ). a * 2 ^ 62 + b) (and-mask (x / 2 ^ 62) 2) (and-mask (x % 2 ^ 62) 5)
-      ∙ ?
+      ∙ omega arith
 
   -- another face and another path beside the solid and the depth
-  pub put-face : (f p : ℕ) → x < 2 ^ 64 → f < 32 → p < 2 ^ 64 → p % 2 ^ 12 ≡ 0 →
-      bitOr (bitOr (bitAnd x 0xc000_0000_0000_001f) ((f * 2 ^ 57) % 2 ^ 64)) (p / 2 ^ 7) ≡ joined (solid x) f (p / 2 ^ 12) (depth x)
-  put-face f p hx h hp t = ?
+  pub put-face : (f w : ℕ) → x < 2 ^ 64 → f < 32 → w < 2 ^ 64 → w % 2 ^ 12 ≡ 0 →
+      bitOr (bitOr (bitAnd x 0xc000_0000_0000_001f) ((f * 2 ^ 57) % 2 ^ 64)) (w / 2 ^ 7) ≡ joined (solid x) f (w / 2 ^ 12) (depth x)
+  put-face f w hx h hw t =
+      let g : ℕ = x / 2 ^ 62 * 32 + f in
+      let e : (f * 2 ^ 57) % 2 ^ 64 ≡ f * 2 ^ 57 + 0 = omega arith in
+      let u : bitOr (bitAnd x 0xc000_0000_0000_001f) ((f * 2 ^ 57) % 2 ^ 64) ≡ g * 2 ^ 57 + x % 2 ^ 5 =
+      ap₂ bitOr (kept hx) e ∙ or-block 57 (x / 2 ^ 62 * 32) f (x % 2 ^ 5) 0 (omega arith) (omega arith)
+      ∙ ap₂ (λ (m n : ℕ). m * 2 ^ 57 + n) (or-shifted (x / 2 ^ 62) 5 f h) (or-zero-r (x % 2 ^ 5)) in
+      let q : w / 2 ^ 7 ≡ w / 2 ^ 12 * 2 ^ 5 = omega arith in
+      ap₂ bitOr u (sym (zero-add (w / 2 ^ 7)))
+      ∙ or-block 57 g 0 (x % 2 ^ 5) (w / 2 ^ 7) (omega arith) (omega arith)
+      ∙ ap₂ (λ (a b : ℕ). a * 2 ^ 57 + b) (or-zero-r g) (ap (bitOr (x % 2 ^ 5)) q ∙ or-shifted-r (w / 2 ^ 12) 5 (x % 2 ^ 5) (mod-lt x (pow-pos 5)))
+      ∙ omega arith
