@@ -64,6 +64,17 @@ pack-unpacked x s f p d h =
 
 -- parent and child
 
+pub record Parent (x y : ℕ) : Type 0 where
+  pub code : Code x
+  pub below : 0 < depth x
+  pub is : y ≡ codeOf (parent (cellOf x))
+
+pub parent-done : (x y : ℕ) → ParentOf x (done y) → Parent x y
+parent-done x y h =
+    let a = code-passed refused x (parentEnd x) (done-differs y) h in
+    let b = met (done-differs y ROOT (omega arith)) (a .1) in
+    record { code = a .0; below = b .0; is = done-one (b .1) }
+
 record Child (x q y : ℕ) : Type 0 where
   code : Code x
   digit : q ≤ 3
@@ -92,15 +103,14 @@ parent-of-child x q y h =
 
 pub child-of-parent : (x y : ℕ) → ParentOf x (done y) → SomeChild y x
 child-of-parent x y h =
-    let a = code-passed refused x (parentEnd x) (done-differs y) h in
-    let b = met (done-differs y ROOT (omega arith)) (a .1) in
-    let n : 0 < depthOf (cellOf x) = rw (cell-depth x) (b .0) in
+    let a = parent-done x y h in
+    let n : 0 < depthOf (cellOf x) = rw (cell-depth x) (a .below) in
     let c = born (cellOf x) n in
     let q : ℕ = digitNo (c .digit) in
     let k : depthOf (cellOf x) ≡ suc (depthOf (parent (cellOf x))) = ap depthOf (c .is) in
-    let l : depthOf (parent (cellOf x)) ≤ 26 = omega (arith, cell-deep x (a .0)) in
-    let i : cellOf y ≡ parent (cellOf x) = ap cellOf (done-one (b .1)) ∙ cell-code (parent (cellOf x)) (cell-formed x (a .0)) l in
-    let f : Code y = subst Code (sym (done-one (b .1))) (code-formed (parent (cellOf x)) (cell-formed x (a .0)) l) in
+    let l : depthOf (parent (cellOf x)) ≤ 26 = omega (arith, cell-deep x (a .code)) in
+    let i : cellOf y ≡ parent (cellOf x) = ap cellOf (a .is) ∙ cell-code (parent (cellOf x)) (cell-formed x (a .code)) l in
+    let f : Code y = subst Code (sym (a .is)) (code-formed (parent (cellOf x)) (cell-formed x (a .code)) l) in
     let e : depth y ≡ depthOf (parent (cellOf x)) = sym (cell-depth y) ∙ ap depthOf i in
     record {
       digit = q;
@@ -109,9 +119,9 @@ child-of-parent x y h =
           (inr (
             omega (arith, digit<4 (c .digit)),
             inr (
-              omega (arith, cell-deep x (a .0)),
+              omega (arith, cell-deep x (a .code)),
               ap done
-                  (sym (code-cell x (a .0)) ∙ ap codeOf (c .is ∙ sym (ap (λ (k : Cell). child k (digitOf q)) i ∙ ap (child (parent (cellOf x))) (digit-no (c .digit))))),
+                  (sym (code-cell x (a .code)) ∙ ap codeOf (c .is ∙ sym (ap (λ (k : Cell). child k (digitOf q)) i ∙ ap (child (parent (cellOf x))) (digit-no (c .digit))))),
             ),
           ));
     }

@@ -84,7 +84,7 @@ cell-depth x = length-digits (depth x) (path x / size (depth x))
 pub cell-deep : (x : ℕ) → Code x → depthOf (cellOf x) ≤ 26
 cell-deep x c = rw (cell-depth x) (c .deep)
 
-digits-fit : (p d : ℕ) → d ≤ 26 → p < 2 ^ 52 → p / size d < 4 ^ d
+pub digits-fit : (p d : ℕ) → d ≤ 26 → p < 2 ^ 52 → p / size d < 4 ^ d
 digits-fit p d h l = div-lt-iff-lt-mul (size-pos d) .1 (subst (λ (m : ℕ). p < m) (sym (size-full d h)) l)
 
 pub code-cell : (x : ℕ) → Code x → codeOf (cellOf x) ≡ x

@@ -8,6 +8,8 @@ pub const DEPTH: u64 = 3;
 
 pub const TAIL: u64 = 4;
 
+pub const DIRECTION: u64 = 5;
+
 pub const DIGIT: u64 = 6;
 
 pub const DEEP: u64 = 7;

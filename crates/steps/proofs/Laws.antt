@@ -4,25 +4,35 @@
 use mathlib.Core.Bool.{Bool, true, false, true≢false}
 use mathlib.Core.Logic.{_⊎_, inl, inr}
 use mathlib.Core.Path.{_≡_, refl, ap, ap₂, sym, _∙_, subst}
-use Prim.Native.Nat.{ℕ, zero, suc, _<_}
+use Prim.Native.Nat.{ℕ, zero, suc, _<_, _≤_}
 use native.Mathlib.Omega.{arith}
 use Rattle.solids.specs.Triangles.{Side, back, sideOf}
 use Rattle.solids.specs.Solids.{solidNo, solidOf}
 use Rattle.solids.proofs.Numbers.{no-solid}
+use Rattle.refusals.specs.Refusals.{DIRECTION}
+use Rattle.refusals.specs.Answers.{done, refused}
+use Rattle.refusals.proofs.Refusals.{met}
+use Rattle.refusals.proofs.Answers.{done-differs}
 use Rattle.geometry.specs.Corners.{Digit}
 use Rattle.geometry.specs.Paths.{digitNo, digitOf}
-use Rattle.geometry.specs.Cells.{Cell, depthOf, child}
+use Rattle.geometry.specs.Cells.{Cell, depthOf, parent, child}
 use Rattle.geometry.specs.Steps.{stops, replaced, flips, way, step}
 use Rattle.geometry.proofs.Paths.{digit<4, digit-no, no-digit}
 use Rattle.geometry.proofs.Undo.{undo}
+use Rattle.geometry.specs.Parts.{Part}
+use Rattle.geometry.proofs.Parents.{parent-across}
 use Rattle.geometry.proofs.Children.{newDigit, stops-back, child-stops, child-climbs}
 use Rattle.codes.specs.Codes.{solid, depth, Code, cellOf, codeOf}
 use Rattle.codes.specs.Places.{CodeOn, childCode}
-use Rattle.codes.proofs.Codes.{code-cell, cell-formed, cell-depth}
+use Rattle.codes.specs.Calls.{parentEnd, ParentOf}
+use Rattle.codes.proofs.Faults.{code-passed, code-on}
+use Rattle.codes.proofs.Codes.{code-formed, cell-code, code-cell, cell-formed, cell-depth, cell-deep}
+use Rattle.codes.proofs.Family.{born}
+use Rattle.codes.proofs.Calls.{parent-done}
 use Rattle.codes.proofs.Places.{code-on-solid, solid-is, on-solid-code, child-place, child-cell}
-use Rattle.steps.specs.Stepped.{stepCode}
+use Rattle.steps.specs.Stepped.{Arrives, stepEnd, Stepped, stepCode}
 use Rattle.steps.specs.Edges.{backNo, first, second, OnEdge, SomeDigit, EdgeDigit, StepLaws}
-use Rattle.steps.proofs.Stepped.{across, step-code, step-cell, one-step}
+use Rattle.steps.proofs.Stepped.{across, step-code, step-cell, arrives, one-step}
 
 side-back : (s : ℕ) → sideOf (backNo s) ≡ back (sideOf s)
 side-back zero = refl
@@ -138,3 +148,47 @@ step-laws S = record {
       rw (step-cell x s c) (across x s c);
   only = λ s x y l h k n. one-step x s (on-solid-code S x h) y (on-solid-code S y k) n;
 }
+
+-- a step that is done
+
+record Done (x s y : ℕ) : Type 0 where
+  code : Code x
+  side : s < 3
+  is : y ≡ stepCode s x
+
+step-done : (x s y : ℕ) → Stepped x s (done y) → Done x s y
+step-done x s y h =
+    let a = code-passed refused x (stepEnd x s) (done-differs y) h in
+    let b = met (done-differs y DIRECTION (omega arith)) (a .1) in
+    record { code = a .0; side = b .0; is = one-step x s (a .0) y (b .1 .code) (b .1 .across) }
+
+pub undo-stepped : (x s y : ℕ) → Stepped x s (done y) → Stepped y (backNo s) (done x)
+undo-stepped x s y h =
+    let d = step-done x s y h in
+    let c = step-code x s (d .code) in
+    rw (d .is)
+    (code-on refused (stepCode s x) (stepEnd (stepCode s x) (backNo s)) c
+    (inr (back< s, subst (λ (n : ℕ). Arrives (stepCode s x) (backNo s) (done n)) (step-back x s (d .code)) (arrives (stepCode s x) (backNo s) c))))
+
+-- the parent of a cell that has one
+module _ (x : ℕ) (c : Code x) (h : 0 < depth x) where
+  parent-deep : depthOf (parent (cellOf x)) ≤ 26
+  parent-deep =
+      let b = born (cellOf x) (rw (cell-depth x) h) in
+      let n : depthOf (cellOf x) ≡ suc (depthOf (parent (cellOf x))) = ap depthOf (b .is) in
+      omega (arith, cell-deep x c)
+
+  parent-cell : cellOf (codeOf (parent (cellOf x))) ≡ parent (cellOf x)
+  parent-cell = cell-code (parent (cellOf x)) (cell-formed x c) parent-deep
+
+pub parent-along : (x s p y z : ℕ) → Part (sideOf s) (cellOf x) → ParentOf x (done p) → Stepped x s (done y) → Stepped p s (done z) → ParentOf y (done z)
+parent-along x s p y z part hp hy hz =
+    let u = parent-done x p hp in
+    let v = step-done x s y hy in
+    let w = step-done p s z hz in
+    let c = step-code x s (u .code) in
+    let e : cellOf p ≡ parent (cellOf x) = ap cellOf (u .is) ∙ parent-cell x (u .code) (u .below) in
+    let f : codeOf (parent (cellOf (stepCode s x))) ≡ z =
+    ap (λ (k : Cell). codeOf (parent k)) (step-cell x s (u .code)) ∙ ap codeOf (parent-across (sideOf s) (cellOf x) (cell-formed x (u .code)) part)
+    ∙ sym (w .is ∙ ap (λ (k : Cell). codeOf (step (sideOf s) k)) e) in
+    rw (v .is) (code-on refused (stepCode s x) (parentEnd (stepCode s x)) c (inr (rw (step-depth x s (u .code)) (u .below), ap done (sym f))))

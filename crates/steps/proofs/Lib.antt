@@ -1,3 +1,4 @@
 pub mod Stepped
 pub mod Laws
 pub mod Fields
+pub mod Words
