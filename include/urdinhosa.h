@@ -23,6 +23,7 @@ enum urdinhosa_refusal {
     URDINHOSA_FACE = 2,  /* the face is not on the solid */
     URDINHOSA_DEPTH = 3, /* the depth is above 26 */
     URDINHOSA_TAIL = 4,  /* a path bit is set after the last digit or, when packing, above the 52 path bits */
+    URDINHOSA_DIRECTION = 5, /* the direction is not 0, 1 or 2 */
     URDINHOSA_DIGIT = 6, /* the child's digit is above 3 */
     URDINHOSA_DEEP = 7,  /* a child is wanted of a cell of depth 26 */
     URDINHOSA_ROOT = 8,  /* the parent is wanted of a cell of depth 0 */
@@ -66,6 +67,20 @@ uint64_t urdinhosa_parent(uint64_t code);
  * Returns the child's code, or else SOLID, FACE, DEPTH, TAIL, DIGIT or DEEP.
  */
 uint64_t urdinhosa_child(uint64_t code, uint64_t digit);
+
+/* The triangle across a side: the one other cell of the same solid and depth that has both end corners of that side,
+ * within the face or over a seam. Worked out on the whole path at once.
+ *
+ * code       in: any number
+ * direction  in: 0 left, 1 right, 2 vertical
+ *
+ * Returns the neighbour's code, or else SOLID, FACE, DEPTH, TAIL or DIRECTION.
+ */
+uint64_t urdinhosa_step(uint64_t code, uint64_t direction);
+
+/* The same triangle, with the same answer for every input, worked out digit by digit.
+ */
+uint64_t urdinhosa_walk(uint64_t code, uint64_t direction);
 
 /* The cell of a depth in which a point is located: the least code of the point's face and that depth whose closed
  * triangle holds the point.

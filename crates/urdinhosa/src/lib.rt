@@ -1,5 +1,6 @@
 // The C interface, whole: each function stands in include/urdinhosa.h and promises what the call under it promises.
 
+ghost use mathlib.Core.Bool.{true};
 ghost use mathlib.Core.Path.{_≡_};
 ghost use Prim.Native.Nat.{ℕ, _^_, _≤_};
 ghost use mathlib.Core.List.{List};
@@ -7,6 +8,7 @@ ghost use Rattle.refusals.specs.Refusals.{Single};
 ghost use Rattle.codes.specs.Codes.{Code};
 ghost use Rattle.codes.specs.Calls.{Packed, ParentOf, ChildOf};
 ghost use Rattle.points.specs.Located.{Located};
+ghost use Rattle.steps.specs.Stepped.{Stepped};
 ghost use Rattle.urdinhosa.specs.Exports.{oneNumber, Gives, Writes};
 use refusals::Answer;
 
@@ -63,6 +65,29 @@ pub extern "C" fn urdinhosa_locate(solid: u64, face: u64, t: u64, l: u64, r: u64
     one_number(points::locate(solid, face, t, l, r, depth))
 }
 
+// The step by carries.
+#[no_mangle]
+pub extern "C" fn urdinhosa_step(code: u64, direction: u64) -> u64
+    ensures { λ r. ⌜ Gives (Stepped code direction) r ⌝ }
+{
+    one_number(steps::step(code, direction))
+}
+
+// The step by digits.
+#[no_mangle]
+pub extern "C" fn urdinhosa_walk(code: u64, direction: u64) -> u64
+    ensures { λ r. ⌜ Gives (Stepped code direction) r ⌝ }
+{
+    one_number(steps::walk(code, direction))
+}
+
+// Whether the two methods agree on a code and a direction: they do on all.
+pub fn methods_agree(code: u64, direction: u64) -> bool
+    ensures { λ r. ⌜ r ≡ true ⌝ }
+{
+    urdinhosa_step(code, direction) == urdinhosa_walk(code, direction)
+}
+
 // Theorems. Each function has an empty body and stands for what it ensures, so that the gate asks for it by name.
 
 // For any input each export has one answer.
@@ -71,6 +96,7 @@ pub fn each_export_has_one_answer()
     ensures { λ _. ⌜ ((x : ℕ) → Single (Gives (ParentOf x))) ⌝ }
     ensures { λ _. ⌜ ((x q : ℕ) → Single (Gives (ChildOf x q))) ⌝ }
     ensures { λ _. ⌜ ((s f t l r d : ℕ) → Single (Gives (Located s f t l r d))) ⌝ }
+    ensures { λ _. ⌜ ((x s : ℕ) → Single (Gives (Stepped x s))) ⌝ }
     ensures { λ _. ⌜ ((x m n : ℕ) (a b : List ℕ) → Writes x m a → Writes x n b → (m ≡ n) × (a ≡ b)) ⌝ }
 {}
 

@@ -2,6 +2,8 @@
 -- Assumes nothing.
 use Rattle.codes.specs.Calls.{Packed, ParentOf, ChildOf}
 use Rattle.codes.proofs.Calls.{pack-single, parent-single, child-single}
+use Rattle.steps.specs.Stepped.{Stepped}
+use Rattle.steps.proofs.Stepped.{stepped-single}
 use Rattle.points.specs.Located.{Located}
 use Rattle.points.proofs.Located.{located-single}
 use Rattle.urdinhosa.proofs.Exports.{gives-single, writes-single}
@@ -15,7 +17,10 @@ returns c = (
     (λ x. gives-single (ParentOf x) (parent-single x)),
     (
       (λ x q. gives-single (ChildOf x q) (child-single x q)),
-      ((λ s f t l r d. gives-single (Located s f t l r d) (located-single s f t l r d)), writes-single),
+      (
+        (λ s f t l r d. gives-single (Located s f t l r d) (located-single s f t l r d)),
+        ((λ x s. gives-single (Stepped x s) (stepped-single x s)), writes-single),
+      ),
     ),
   ),
 )
