@@ -2,7 +2,6 @@
 -- Assumes nothing.
 use mathlib.Core.Bool.{Bool, true, _&&_}
 use mathlib.Core.List.{List, [], _∷_}
-use mathlib.Core.Logic.{inr}
 use mathlib.Core.Path.{_≡_, ap, _∙_, subst}
 use Prim.Native.Nat.{ℕ}
 use lib.Dec.{T, eqb, ltb, eqb→eq, ltb→lt}
@@ -11,9 +10,9 @@ use Rattle.refusals.proofs.Refusals.{ask, answer-is}
 use Rattle.solids.proofs.Tests.{and-l, and-r}
 use Rattle.codes.specs.Codes.{size, Code, cellOf, codeOf}
 use Rattle.codes.specs.Calls.{Checked}
-use Rattle.codes.proofs.Faults.{code-on, code-is-formed}
-use Rattle.steps.specs.Stepped.{Arrives, stepEnd, Stepped, stepCode}
-use Rattle.steps.proofs.Stepped.{arrives}
+use Rattle.codes.proofs.Faults.{code-is-formed}
+use Rattle.steps.specs.Stepped.{Arrives, Stepped, stepCode}
+use Rattle.steps.proofs.Stepped.{arrives, step-on}
 use Rattle.solids.specs.Solids.{nextRow, mirrored}
 use Rattle.geometry.specs.Paths.{number, digits}
 use Rattle.geometry.specs.Steps.{stops, replaced, mirror, walked, crosses, way, step}
@@ -38,7 +37,7 @@ step-is x s y h =
     let c : Code x = code-is-formed x (checked x .meets) (eqb→eq _ _ (and-l (eqb (checked x .answer) 0) (ltb s 3 && eqb (stepCode s x) y) h)) in
     let t : T (ltb s 3 && eqb (stepCode s x) y) = and-r (eqb (checked x .answer) 0) (ltb s 3 && eqb (stepCode s x) y) h in
     let e : stepCode s x ≡ y = eqb→eq _ _ (and-r (ltb s 3) (eqb (stepCode s x) y) t) in
-    code-on refused x (stepEnd x s) c (inr (ltb→lt _ _ (and-l (ltb s 3) (eqb (stepCode s x) y) t), subst (λ (n : ℕ). Arrives x s (done n)) e (arrives x s c)))
+    step-on refused x s (Arrives x s) c (ltb→lt _ _ (and-l (ltb s 3) (eqb (stepCode s x) y) t)) (subst (λ (n : ℕ). Arrives x s (done n)) e (arrives x s c))
 
 says : (c : Case) → T (agrees c) → Says c
 says (steps x s y) h = step-is x s y h

@@ -41,6 +41,20 @@ fn child(code: u64, digit: u64) {
     answered(urdinhosa::urdinhosa_child(code, digit));
 }
 
+fn step(code: u64, direction: u64) {
+    io::write_all(STDOUT_FILENO, b"step");
+    shown(code);
+    shown(direction);
+    answered(urdinhosa::urdinhosa_step(code, direction));
+}
+
+fn walk(code: u64, direction: u64) {
+    io::write_all(STDOUT_FILENO, b"walk");
+    shown(code);
+    shown(direction);
+    answered(urdinhosa::urdinhosa_walk(code, direction));
+}
+
 fn pack(solid: u64, face: u64, path: u64, depth: u64) {
     io::write_all(STDOUT_FILENO, b"pack");
     shown(solid);
@@ -104,6 +118,34 @@ fn on_codes() {
     about(0xce96_0000_0000_0006);
 }
 
+fn across(code: u64) {
+    step(code, 0);
+    step(code, 1);
+    step(code, 2);
+    step(code, 3);
+    walk(code, 0);
+    walk(code, 1);
+    walk(code, 2);
+    walk(code, 3);
+}
+
+fn stepping() {
+    // a bad code: its own number, whatever the direction
+    across(0x4000_0000_0000_0020);
+    // tetrahedron face 0, path 01, and face 3, path 11
+    across(0x4080_0000_0000_0001);
+    across(0x4780_0000_0000_0001);
+    // octahedron face 3, and face 1, path 0011
+    across(0x8600_0000_0000_0000);
+    across(0x8260_0000_0000_0002);
+    // icosahedron faces 5 and 0, path 0011110011
+    across(0xca79_8000_0000_0005);
+    across(0xc079_8000_0000_0005);
+    // icosahedron face 7, six digits, and face 19, 26 digits 11
+    across(0xce96_0000_0000_0006);
+    across(0xe7ff_ffff_ffff_fffa);
+}
+
 fn packing() {
     pack(257, 0, 0, 0);
     pack(0, 0, 0, 0);
@@ -138,6 +180,7 @@ fn locating() {
 
 fn main() {
     on_codes();
+    stepping();
     packing();
     locating();
 }

@@ -18,13 +18,16 @@ module _ {A : Type 0} (out : ℕ → A) (s f p d : ℕ) (rest : A → Type 0) wh
   pub go-on : {a : A} → Formed s f p d → rest a → faults out s f p d rest a
   go-on h r = inr (h .known, inr (h .on, inr (h .deep, inr (h .tail, r))))
 
-  -- a number that is not 0 refuses in every sequence that begins so
+  -- a number from a sequence that begins so is handed on: it refuses by one of the four, or the rest says what becomes of it
+  pub hand-on : {n : ℕ} (rest₀ : ℕ → Type 0) → faults (λ k. k) s f p d rest₀ n → (rest₀ n → rest (out n)) → faults out s f p d rest (out n)
+  hand-on r (inl x) z = inl (x .0, ap out (x .1))
+  hand-on r (inr (a, inl x)) z = inr (a, inl (x .0, ap out (x .1)))
+  hand-on r (inr (a, inr (b, inl x))) z = inr (a, inr (b, inl (x .0, ap out (x .1))))
+  hand-on r (inr (a, inr (b, inr (c, inl x)))) z = inr (a, inr (b, inr (c, inl (x .0, ap out (x .1)))))
+  hand-on r (inr (a, inr (b, inr (c, inr (e, x))))) z = inr (a, inr (b, inr (c, inr (e, z x))))
+
   pub refuses : {n : ℕ} → faults (λ k. k) s f p d (λ n. n ≡ 0) n → (n ≡ 0 → ⊥) → faults out s f p d rest (out n)
-  refuses (inl x) z = inl (x .0, ap out (x .1))
-  refuses (inr (a, inl x)) z = inr (a, inl (x .0, ap out (x .1)))
-  refuses (inr (a, inr (b, inl x))) z = inr (a, inr (b, inl (x .0, ap out (x .1))))
-  refuses (inr (a, inr (b, inr (c, inl x)))) z = inr (a, inr (b, inr (c, inl (x .0, ap out (x .1)))))
-  refuses (inr (a, inr (b, inr (c, inr (e, x))))) z = absurd (z x)
+  refuses h z = hand-on (λ n. n ≡ 0) h (λ e. absurd (z e))
 
   -- an answer that refuses by no number met all four
   pub passed : {a : A} → ((k : ℕ) → 0 < k → a ≡ out k → ⊥) → faults out s f p d rest a → Formed s f p d × rest a
@@ -46,6 +49,9 @@ module _ {A : Type 0} (out : ℕ → A) (x : ℕ) (rest : A → Type 0) where
 
   pub code-on : {a : A} → Code x → rest a → codeFaults out x rest a
   code-on = go-on out (solid x) (face x) (path x) (depth x) rest
+
+  pub code-hand-on : {n : ℕ} (rest₀ : ℕ → Type 0) → codeFaults (λ k. k) x rest₀ n → (rest₀ n → rest (out n)) → codeFaults out x rest (out n)
+  code-hand-on = hand-on out (solid x) (face x) (path x) (depth x) rest
 
   pub code-refused : {n : ℕ} → codeFaults (λ k. k) x (λ n. n ≡ 0) n → (n ≡ 0 → ⊥) → codeFaults out x rest (out n)
   code-refused = refuses out (solid x) (face x) (path x) (depth x) rest

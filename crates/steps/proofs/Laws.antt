@@ -9,9 +9,7 @@ use native.Mathlib.Omega.{arith}
 use Rattle.solids.specs.Triangles.{Side, back, sideOf}
 use Rattle.solids.specs.Solids.{solidNo, solidOf}
 use Rattle.solids.proofs.Numbers.{no-solid}
-use Rattle.refusals.specs.Refusals.{DIRECTION}
 use Rattle.refusals.specs.Answers.{done, refused}
-use Rattle.refusals.proofs.Refusals.{met}
 use Rattle.refusals.proofs.Answers.{done-differs}
 use Rattle.geometry.specs.Corners.{Digit}
 use Rattle.geometry.specs.Paths.{digitNo, digitOf}
@@ -25,14 +23,14 @@ use Rattle.geometry.proofs.Children.{newDigit, stops-back, child-stops, child-c
 use Rattle.codes.specs.Codes.{solid, depth, Code, cellOf, codeOf}
 use Rattle.codes.specs.Places.{CodeOn, childCode}
 use Rattle.codes.specs.Calls.{parentEnd, ParentOf}
-use Rattle.codes.proofs.Faults.{code-passed, code-on}
+use Rattle.codes.proofs.Faults.{code-on}
 use Rattle.codes.proofs.Codes.{code-formed, cell-code, code-cell, cell-formed, cell-depth, cell-deep}
 use Rattle.codes.proofs.Family.{born}
 use Rattle.codes.proofs.Calls.{parent-done}
 use Rattle.codes.proofs.Places.{code-on-solid, solid-is, on-solid-code, child-place, child-cell}
-use Rattle.steps.specs.Stepped.{Arrives, stepEnd, Stepped, stepCode}
+use Rattle.steps.specs.Stepped.{Arrives, Stepped, stepCode}
 use Rattle.steps.specs.Edges.{backNo, first, second, OnEdge, SomeDigit, EdgeDigit, StepLaws}
-use Rattle.steps.proofs.Stepped.{across, step-code, step-cell, arrives, one-step}
+use Rattle.steps.proofs.Stepped.{across, step-code, step-cell, arrives, one-step, step-on, step-passed}
 
 side-back : (s : ℕ) → sideOf (backNo s) ≡ back (sideOf s)
 side-back zero = refl
@@ -158,17 +156,16 @@ record Done (x s y : ℕ) : Type 0 where
 
 step-done : (x s y : ℕ) → Stepped x s (done y) → Done x s y
 step-done x s y h =
-    let a = code-passed refused x (stepEnd x s) (done-differs y) h in
-    let b = met (done-differs y DIRECTION (omega arith)) (a .1) in
-    record { code = a .0; side = b .0; is = one-step x s (a .0) y (b .1 .code) (b .1 .across) }
+    let a = step-passed refused x s (Arrives x s) (done-differs y) h in
+    record { code = a .0; side = a .1; is = one-step x s (a .0) y (a .2 .code) (a .2 .across) }
 
 pub undo-stepped : (x s y : ℕ) → Stepped x s (done y) → Stepped y (backNo s) (done x)
 undo-stepped x s y h =
     let d = step-done x s y h in
     let c = step-code x s (d .code) in
     rw (d .is)
-    (code-on refused (stepCode s x) (stepEnd (stepCode s x) (backNo s)) c
-    (inr (back< s, subst (λ (n : ℕ). Arrives (stepCode s x) (backNo s) (done n)) (step-back x s (d .code)) (arrives (stepCode s x) (backNo s) c))))
+    (step-on refused (stepCode s x) (backNo s) (Arrives (stepCode s x) (backNo s)) c (back< s)
+    (subst (λ (n : ℕ). Arrives (stepCode s x) (backNo s) (done n)) (step-back x s (d .code)) (arrives (stepCode s x) (backNo s) c)))
 
 -- the parent of a cell that has one
 module _ (x : ℕ) (c : Code x) (h : 0 < depth x) where

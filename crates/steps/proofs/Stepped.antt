@@ -2,7 +2,8 @@
 -- Assumes nothing.
 use mathlib.Core.Bool.{Bool, true, false}
 use mathlib.Core.List.{List, map}
-use mathlib.Core.Path.{_≡_, refl, ap₂, sym, _∙_}
+use mathlib.Core.Logic.{inl, inr}
+use mathlib.Core.Path.{_≡_, refl, ap, ap₂, sym, _∙_}
 use Prim.Native.Nat.{ℕ, _<_, _≤_}
 use native.Mathlib.Omega.{arith}
 use lib.ListN.{length, length-map}
@@ -10,9 +11,9 @@ use Rattle.solids.specs.Triangles.{sideOf}
 use Rattle.solids.specs.Solids.{Solid, solidOf, nextFace, mirrored}
 use Rattle.solids.proofs.Numbers.{no-solid, faces-few}
 use Rattle.solids.proofs.Seams.{joined}
-use Rattle.refusals.specs.Refusals.{Single}
+use Rattle.refusals.specs.Refusals.{DIRECTION, need, Single}
 use Rattle.refusals.specs.Answers.{done, refused}
-use Rattle.refusals.proofs.Refusals.{need-single}
+use Rattle.refusals.proofs.Refusals.{need-single, met}
 use Rattle.geometry.specs.Corners.{Digit}
 use Rattle.geometry.specs.Cells.{Cell, depthOf}
 use Rattle.geometry.specs.Steps.{walked, crosses, mirror, wayOf, way, moved, step}
@@ -21,9 +22,9 @@ use Rattle.geometry.proofs.Across.{length-walked}
 use Rattle.geometry.proofs.Neighbours.{neighbour, one-neighbour}
 use Rattle.codes.specs.Codes as codes
 use Rattle.codes.specs.Codes.{solid, face, depth, Code, pathOf, cellOf, codeOf}
-use Rattle.codes.proofs.Faults.{code-single}
+use Rattle.codes.proofs.Faults.{code-single, code-on, code-hand-on, code-passed}
 use Rattle.codes.proofs.Codes.{code-formed, cell-code, cell-formed, cell-depth, cell-deep, one-code}
-use Rattle.steps.specs.Stepped.{Arrives, stepEnd, Stepped, stepCode}
+use Rattle.steps.specs.Stepped.{stepFaults, Arrives, Stepped, stepCode}
 
 module _ (x s : ℕ) (c : Code x) where
   pub across : Neighbour (sideOf s) (cellOf x) (step (sideOf s) (cellOf x))
@@ -50,8 +51,30 @@ module _ (x s : ℕ) (c : Code x) where
       ap₂ (λ (m n : ℕ). record { number = m; value = n }) (p .number ∙ sym (q .number))
       (one-step (a .value) (p .code) (p .across) ∙ sym (one-step (b .value) (q .code) (q .across)))
 
+-- the sequence 1 to 5: how a call hands on the number of the check, and what the number 0 says
+
+module _ {A : Type 0} (out : ℕ → A) (x s : ℕ) (rest : A → Type 0) where
+  pub step-refused : {n : ℕ} → stepFaults (λ k. k) x s (λ n. n ≡ 0) n → (n ≡ 0 → ⊥) → stepFaults out x s rest (out n)
+  step-refused {n} h z = code-hand-on out x (need (s < 3) (out DIRECTION) rest) (need (s < 3) DIRECTION (λ n. n ≡ 0)) h last
+    where
+      last : need (s < 3) DIRECTION (λ n. n ≡ 0) n → need (s < 3) (out DIRECTION) rest (out n)
+      last (inl p) = inl (p .0, ap out (p .1))
+      last (inr p) = absurd (z (p .1))
+
+  pub step-on : {a : A} → Code x → s < 3 → rest a → stepFaults out x s rest a
+  step-on c h r = code-on out x (need (s < 3) (out DIRECTION) rest) c (inr (h, r))
+
+  pub step-passed : {a : A} → ((k : ℕ) → 0 < k → a ≡ out k → ⊥) → stepFaults out x s rest a → Code x × (s < 3) × rest a
+  step-passed n h =
+      let p = code-passed out x (need (s < 3) (out DIRECTION) rest) n h in
+      let q = met (n DIRECTION (omega arith)) (p .1) in
+      (p .0, q .0, q .1)
+
+pub step-formed : (x s : ℕ) {n : ℕ} → stepFaults (λ k. k) x s (λ n. n ≡ 0) n → n ≡ 0 → Code x × (s < 3)
+step-formed x s h z = let p = step-passed (λ k. k) x s (λ n. n ≡ 0) (λ k l e. omega arith) h in (p .0, p .1)
+
 pub stepped-single : (x s : ℕ) → Single (Stepped x s)
-stepped-single x s = code-single refused x (stepEnd x s) (λ c. need-single (λ h. arrives-single x s c))
+stepped-single x s = code-single refused x (need (s < 3) (refused DIRECTION) (Arrives x s)) (λ c. need-single (λ h. arrives-single x s c))
 
 -- the step's code, by the way it goes
 module _ (x s : ℕ) (c : Code x) where

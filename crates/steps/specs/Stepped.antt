@@ -1,7 +1,8 @@
 -- What the step over a side answers, for any code and direction.
 --
+--   stepFaults    == refusals 1 to 4 for the code, then 5 for the direction
 --   Arrives x s r == the reply r is the code of the neighbour of x over side s, by the corner rule
---   Stepped x s r == r is the reply for the step of x in direction s: 1 to 4, then 5, then the neighbour
+--   Stepped x s r == r is the reply for the step of x in direction s
 --   stepCode s x  == the code that the step of the cell of x leads to
 --
 -- Both methods have the promise Stepped, which says nothing of digits, tables or seams.
@@ -21,11 +22,12 @@ pub record Arrives (x s : ℕ) (r : Reply) : Type 0 where
   pub code : Code (r .value)
   pub across : Neighbour (sideOf s) (cellOf x) (cellOf (r .value))
 
-abbrev pub stepEnd : ℕ → ℕ → Reply → Type 0
-stepEnd x s = need (s < 3) (refused DIRECTION) (Arrives x s)
+-- "Pure calls: 1, 2, 3, 4, then 5, 6, 7, 8 where they apply."
+abbrev pub stepFaults : {A : Type 0} → (ℕ → A) → ℕ → ℕ → (A → Type 0) → A → Type 0
+stepFaults out x s rest = codeFaults out x (need (s < 3) (out DIRECTION) rest)
 
 abbrev pub Stepped : ℕ → ℕ → Reply → Type 0
-Stepped x s = codeFaults refused x (stepEnd x s)
+Stepped x s = stepFaults refused x s (Arrives x s)
 
 abbrev pub stepCode : ℕ → ℕ → ℕ
 stepCode s x = codeOf (step (sideOf s) (cellOf x))

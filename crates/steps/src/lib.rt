@@ -9,7 +9,7 @@ ghost use Rattle.solids.specs.Triangles.{sideOf};
 ghost use Rattle.geometry.specs.Parts.{Part};
 ghost use Rattle.codes.specs.Codes.{solid, face, path, depth, joined, Code, cellOf};
 ghost use Rattle.codes.specs.Calls.{ParentOf};
-ghost use Rattle.steps.specs.Stepped.{Stepped, stepCode};
+ghost use Rattle.steps.specs.Stepped.{stepFaults, Stepped, stepCode};
 ghost use Rattle.steps.specs.Words.{Over};
 ghost use Rattle.steps.specs.Edges.{backNo, StepLaws};
 use refusals::Answer;
@@ -80,16 +80,27 @@ pub fn walk_of(code: u64, side: u64) -> u64
     with_path(code, word_of(code), new)
 }
 
+// The first fault of a code and a direction, 1 to 5, or 0 where there is none.
+fn fault_of(code: u64, direction: u64) -> u64
+    ensures { λ r. ⌜ stepFaults (λ k. k) code direction (λ n. n ≡ 0) r ⌝ }
+{
+    let n = codes::check(code);
+    if n != 0 {
+        return n;
+    }
+    if 2 < direction {
+        return refusals::DIRECTION;
+    }
+    0
+}
+
 // The step over a side, by carries.
 pub fn step(code: u64, direction: u64) -> Answer
     ensures { λ r. ⌜ Stepped code direction (reply r) ⌝ }
 {
-    let n = codes::check(code);
+    let n = fault_of(code, direction);
     if n != 0 {
         return Answer::Refused(n);
-    }
-    if 2 < direction {
-        return Answer::Refused(refusals::DIRECTION);
     }
     Answer::Code(step_of(code, direction))
 }
@@ -98,12 +109,9 @@ pub fn step(code: u64, direction: u64) -> Answer
 pub fn walk(code: u64, direction: u64) -> Answer
     ensures { λ r. ⌜ Stepped code direction (reply r) ⌝ }
 {
-    let n = codes::check(code);
+    let n = fault_of(code, direction);
     if n != 0 {
         return Answer::Refused(n);
-    }
-    if 2 < direction {
-        return Answer::Refused(refusals::DIRECTION);
     }
     Answer::Code(walk_of(code, direction))
 }
