@@ -135,7 +135,13 @@ fn stepping() {
     // tetrahedron face 0, path 01, and face 3, path 11
     across(0x4080_0000_0000_0001);
     across(0x4780_0000_0000_0001);
-    // octahedron face 3, and face 1, path 0011
+    // the four children of tetrahedron face 1
+    across(0x4200_0000_0000_0001);
+    across(0x4280_0000_0000_0001);
+    across(0x4300_0000_0000_0001);
+    across(0x4380_0000_0000_0001);
+    // octahedron faces 0 and 3, and face 1, path 0011
+    across(0x8000_0000_0000_0000);
     across(0x8600_0000_0000_0000);
     across(0x8260_0000_0000_0002);
     // icosahedron faces 5 and 0, path 0011110011
