@@ -1,0 +1,5 @@
+pub mod Regions
+pub mod Leaves
+pub mod Soundness
+pub mod Changes
+pub mod Sides
