@@ -1,7 +1,7 @@
 // Codes of triangles: 2 bits solid, 5 bits face, 52 bits path, 5 bits depth.
 
 ghost use mathlib.Core.Path.{_≡_};
-ghost use Prim.Native.Nat.{ℕ, _+_, _-_, _*_, _/_, _%_, _^_, _≤_, _<_};
+ghost use Prim.Native.Nat.{ℕ, _+_, _-_, _*_, _^_, _≤_, _<_};
 ghost use Rattle.solids.specs.Triangles.{Corner};
 ghost use Rattle.refusals.specs.Refusals.{Single};
 ghost use Rattle.refusals.specs.Answers.{done, reply};
