@@ -3,3 +3,4 @@ pub mod Leaves
 pub mod Soundness
 pub mod Changes
 pub mod Sides
+pub mod Inner
