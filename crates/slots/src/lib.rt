@@ -1,0 +1,24 @@
+// Slots of a mesh as numbers in a slice: searched, cleared, one made four and four made one. Nothing here knows of triangles.
+
+ghost use Prim.Native.Nat.{_≤_};
+ghost use lib.ListN.{length, take};
+ghost use Rattle.soundness.specs.Leaves.{Ascends};
+ghost use Rattle.slots.specs.Slots.{Below};
+
+// How many of the first `n` slots, which ascend, are less than the key; `n` if all are.
+pub fn below(slots: &[u64], n: usize, key: u64) -> usize
+    requires { ⌜ (n ≤ length (now slots)) × Ascends (take n (now slots)) ⌝ }
+    ensures { λ r. ⌜ Below (take n (now (slots .entry))) key r ⌝ }
+{
+    let mut lo = 0;
+    let mut hi = n;
+    while lo < hi {
+        let mid = lo + (hi - lo) / 2;
+        if slots[mid] < key {
+            lo = mid + 1;
+        } else {
+            hi = mid;
+        }
+    }
+    lo
+}
