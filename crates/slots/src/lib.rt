@@ -2,8 +2,9 @@
 
 ghost use Prim.Native.Nat.{_≤_};
 ghost use lib.ListN.{length, take};
+ghost use Rattle.refusals.specs.Answers.{Tells};
 ghost use Rattle.soundness.specs.Leaves.{Ascends};
-ghost use Rattle.slots.specs.Slots.{Below};
+ghost use Rattle.slots.specs.Slots.{Below, ZerosFrom};
 
 // How many of the first `n` slots, which ascend, are less than the key; `n` if all are.
 pub fn below(slots: &[u64], n: usize, key: u64) -> usize
@@ -21,4 +22,19 @@ pub fn below(slots: &[u64], n: usize, key: u64) -> usize
         }
     }
     lo
+}
+
+// Whether every slot from `n` on is zero; yes if there is none.
+pub fn zeros_from(slots: &[u64], n: usize) -> bool
+    requires { ⌜ n ≤ length (now slots) ⌝ }
+    ensures { λ r. ⌜ Tells r (ZerosFrom (now (slots .entry)) n) ⌝ }
+{
+    let mut i = slots.len();
+    while n < i {
+        i -= 1;
+        if slots[i] != 0 {
+            return false;
+        }
+    }
+    true
 }
