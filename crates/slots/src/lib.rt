@@ -1,10 +1,11 @@
 // Slots of a mesh as numbers in a slice: searched, cleared, one made four and four made one. Nothing here knows of triangles.
 
+ghost use mathlib.Core.Path.{_≡_};
 ghost use Prim.Native.Nat.{_≤_};
 ghost use lib.ListN.{length, take};
 ghost use Rattle.refusals.specs.Answers.{Tells};
 ghost use Rattle.soundness.specs.Leaves.{Ascends};
-ghost use Rattle.slots.specs.Slots.{Below, ZerosFrom};
+ghost use Rattle.slots.specs.Slots.{Below, ZerosFrom, clearedFrom};
 
 // How many of the first `n` slots, which ascend, are less than the key; `n` if all are.
 pub fn below(slots: &[u64], n: usize, key: u64) -> usize
@@ -37,4 +38,16 @@ pub fn zeros_from(slots: &[u64], n: usize) -> bool
         }
     }
     true
+}
+
+// Makes every slot from `n` on zero.
+pub fn clear_from(slots: &mut [u64], n: usize)
+    requires { ⌜ n ≤ length (now slots) ⌝ }
+    ensures { λ _. ⌜ now (slots .exit) ≡ clearedFrom (now (slots .entry)) n ⌝ }
+{
+    let mut i = slots.len();
+    while n < i {
+        i -= 1;
+        slots[i] = 0;
+    }
 }
