@@ -1,0 +1,53 @@
+// Slots of a mesh as numbers in a slice: searched, cleared, one made four and four made one. Nothing here knows of triangles.
+
+ghost use mathlib.Core.Path.{_≡_};
+ghost use Prim.Native.Nat.{_≤_};
+ghost use lib.ListN.{length, take};
+ghost use Rattle.refusals.specs.Answers.{Tells};
+ghost use Rattle.soundness.specs.Leaves.{Ascends};
+ghost use Rattle.slots.specs.Slots.{Below, ZerosFrom, clearedFrom};
+
+// How many of the first `n` slots, which ascend, are less than the key; `n` if all are.
+pub fn below(slots: &[u64], n: usize, key: u64) -> usize
+    requires { ⌜ (n ≤ length (now slots)) × Ascends (take n (now slots)) ⌝ }
+    ensures { λ r. ⌜ Below (take n (now (slots .entry))) key r ⌝ }
+{
+    let mut lo = 0;
+    let mut hi = n;
+    while lo < hi {
+        let mid = lo + (hi - lo) / 2;
+        if slots[mid] < key {
+            lo = mid + 1;
+        } else {
+            hi = mid;
+        }
+    }
+    lo
+}
+
+// Whether every slot from `n` on is zero; yes if there is none.
+pub fn zeros_from(slots: &[u64], n: usize) -> bool
+    requires { ⌜ n ≤ length (now slots) ⌝ }
+    ensures { λ r. ⌜ Tells r (ZerosFrom (now (slots .entry)) n) ⌝ }
+{
+    let mut i = slots.len();
+    while n < i {
+        i -= 1;
+        if slots[i] != 0 {
+            return false;
+        }
+    }
+    true
+}
+
+// Makes every slot from `n` on zero.
+pub fn clear_from(slots: &mut [u64], n: usize)
+    requires { ⌜ n ≤ length (now slots) ⌝ }
+    ensures { λ _. ⌜ now (slots .exit) ≡ clearedFrom (now (slots .entry)) n ⌝ }
+{
+    let mut i = slots.len();
+    while n < i {
+        i -= 1;
+        slots[i] = 0;
+    }
+}
