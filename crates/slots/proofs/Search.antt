@@ -7,7 +7,7 @@ use Prim.Native.Nat.{ℕ, zero, suc, _+_, _<_, _≤_}
 use native.Mathlib.Omega.{arith}
 use lib.ListN.{length, getD}
 use Rattle.soundness.specs.Leaves.{Leaf, Ascends}
-use Rattle.slots.specs.Slots.{Below}
+use Rattle.soundness.specs.Inner.{Below}
 
 leaf-at : (L : List ℕ) (i : ℕ) → i < length L → Leaf L (getD L i 0)
 leaf-at [] i h = absurd (omega arith)

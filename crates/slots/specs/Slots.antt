@@ -1,6 +1,5 @@
 -- What is asked of slots, and what is done to them; `xs` are the slots, and the first `n` of them are in use.
 --
---   Below L key r           == r of L are less than the key, and they stand first
 --   ZerosFrom xs n          == from n on every slot is zero
 --   clearedFrom xs n        == xs with zeros from n on
 --   opened xs at n          == the slots from `at` up to n moved up three
@@ -11,13 +10,8 @@
 -- Assumes nothing.
 use mathlib.Core.List.{List, [], _∷_, _++_}
 use mathlib.Core.Path.{_≡_}
-use Prim.Native.Nat.{ℕ, _+_, _-_, _<_, _≤_}
-use lib.ListN.{length, getD, take, drop, replicate}
-
-pub record Below (L : List ℕ) (key r : ℕ) : Type 0 where
-  pub upto : r ≤ length L
-  pub less : (i : ℕ) → i < r → getD L i 0 < key
-  pub rest : (i : ℕ) → r ≤ i → i < length L → key ≤ getD L i 0
+use Prim.Native.Nat.{ℕ, _+_, _-_}
+use lib.ListN.{length, take, drop, replicate}
 
 -- "then only zeros"
 abbrev pub ZerosFrom : List ℕ → ℕ → Type 0

@@ -5,7 +5,8 @@ ghost use Prim.Native.Nat.{_≤_};
 ghost use lib.ListN.{length, take};
 ghost use Rattle.refusals.specs.Answers.{Tells};
 ghost use Rattle.soundness.specs.Leaves.{Ascends};
-ghost use Rattle.slots.specs.Slots.{Below, ZerosFrom, clearedFrom};
+ghost use Rattle.slots.specs.Slots.{ZerosFrom, clearedFrom};
+ghost use Rattle.soundness.specs.Inner.{Below};
 
 // How many of the first `n` slots, which ascend, are less than the key; `n` if all are.
 pub fn below(slots: &[u64], n: usize, key: u64) -> usize
