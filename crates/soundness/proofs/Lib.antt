@@ -1,2 +1,5 @@
 pub mod Cells
 pub mod Tiles
+pub mod Edges
+pub mod Meets
+pub mod Sides
