@@ -1,5 +1,6 @@
 pub mod Cells
 pub mod Tiles
+pub mod Leaves
 pub mod Edges
 pub mod Meets
 pub mod Sides
