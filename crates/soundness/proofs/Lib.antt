@@ -4,3 +4,6 @@ pub mod Leaves
 pub mod Edges
 pub mod Meets
 pub mod Sides
+pub mod Level
+pub mod Rows
+pub mod Across
