@@ -1,3 +1,9 @@
 pub mod Cells
 pub mod Tiles
 pub mod Leaves
+pub mod Edges
+pub mod Meets
+pub mod Sides
+pub mod Level
+pub mod Rows
+pub mod Across

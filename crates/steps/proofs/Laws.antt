@@ -37,7 +37,7 @@ side-back zero = refl
 side-back (suc zero) = refl
 side-back (suc (suc n)) = refl
 
-back< : (s : ℕ) → backNo s < 3
+pub back< : (s : ℕ) → backNo s < 3
 back< zero = omega arith
 back< (suc zero) = omega arith
 back< (suc (suc n)) = omega arith
