@@ -1,3 +1,4 @@
 pub mod Cells
 pub mod Tiles
 pub mod Leaves
+pub mod Slots
