@@ -5,7 +5,7 @@
 --   all-faces-in, all-faces-set == the set of all faces has every place of the solid, and is a set of faces
 --   leaves-pad, length-pad      == the leaves of padded slots, and their length
 --   leaves-le, head-leaf        == leaves stand in slots, the first one in the first
---   pad-sound                   == the leaves of a mesh, padded with zeros, are sound
+--   pad-sound, fresh-sound      == the leaves of a mesh, padded with zeros, are sound; so the fresh ones
 --   sound-solid, sound-faces    == the solid of sound slots is that of the first, their faces are theirs alone
 --
 -- Assumes nothing.
@@ -197,6 +197,9 @@ pad-sound S Q n L ok short room m =
       form = ap (λ (k : ℕ). pad k L) (sym l) ∙ ap (λ (k : List ℕ). pad (length (pad n L)) k) (sym e);
       mesh = subst (λ (k : List ℕ). Mesh S Q k) (sym e) m;
     }
+
+pub fresh-sound : (S Q n : ℕ) → Known S → FaceSet S Q → length (freshLeaves S Q) ≤ n → n ≤ 8192 → Sound S Q (pad n (freshLeaves S Q))
+fresh-sound S Q n known ok room short = pad-sound S Q n (freshLeaves S Q) ok short room (fresh-mesh S Q known ok)
 
 pub sound-solid : (S Q : ℕ) (xs : List ℕ) → Sound S Q xs → solid (getD xs 0 0) ≡ S
 sound-solid S Q xs s = let m = s .mesh in solid-is S (getD xs 0 0) (m .covers .cells (getD xs 0 0) (head-leaf xs (m .some)))
