@@ -1,6 +1,8 @@
 pub mod Cells
 pub mod Tiles
 pub mod Leaves
+pub mod Slots
+pub mod Fresh
 pub mod Edges
 pub mod Meets
 pub mod Sides
