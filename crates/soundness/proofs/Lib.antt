@@ -9,3 +9,7 @@ pub mod Sides
 pub mod Level
 pub mod Rows
 pub mod Across
+pub mod Expanded
+pub mod Coarsened
+pub mod Refine
+pub mod Coarsen
