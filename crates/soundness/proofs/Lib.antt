@@ -13,3 +13,5 @@ pub mod Expanded
 pub mod Coarsened
 pub mod Refine
 pub mod Coarsen
+pub mod Prefixes
+pub mod Examine
