@@ -15,3 +15,4 @@ pub mod Refine
 pub mod Coarsen
 pub mod Prefixes
 pub mod Examine
+pub mod Answers

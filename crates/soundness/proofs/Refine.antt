@@ -96,19 +96,19 @@ module _ (S Q : ℕ) (step : ℕ → ℕ → ℕ) (N : StepLaws S step) (L : Lis
             is = record { leaf = my; side = s; low = l; meets = subst (λ (z : ℕ). Meets z s y) f n; larger = subst (λ (z : ℕ). depth y < depth z) f h };
           })
 
-  pub refine-blocked : (a : ℕ) → Leaf L a → depth a < 26 → Some (BlocksRefine L a) → Level (refined a L) → ⊥
-  refine-blocked a ma d w f =
-      let b = w .one in
-      let r = w .is in
-      let ne : a ≡ b → ⊥ = λ e. omega (arith, ap depth e, r .larger) in
-      let k = meets-child a (r .side) b d (r .meets) in
-      let mc = expand-kid (eqb a) L a (k .digit) ma (eq-eqb a a refl) (k .four) in
-      let mb = expand-old (eqb a) L b (r .leaf) (ne-eqb a b ne) in
-      omega (arith, f (childCode a (k .digit)) (r .side) b mc mb (r .low) (k .is) .0, depth-child a (k .digit) d, r .larger)
-
 module _ (S Q : ℕ) (step : ℕ → ℕ → ℕ) (N : StepLaws S step) where
   pub refine-sound : (a : ℕ) (xs : List ℕ) → Sound S Q xs → Leaf (leaves xs) a → depth a < 26 → (Some (BlocksRefine (leaves xs) a) → ⊥) → length (leaves xs) + 3 ≤ length xs →
       Sound S Q (pad (length xs) (refined a (leaves xs)))
   refine-sound a xs s k d free room =
       let L = leaves xs in
       pad-sound S Q (length xs) (refined a L) (s .region) (s .short) (omega (arith, refine-length L a (s .mesh .covers .ascend) k)) (refine-mesh S Q step N L a (s .mesh) k d free)
+
+pub refine-blocked : (a : ℕ) (L : List ℕ) → Leaf L a → depth a < 26 → Some (BlocksRefine L a) → Level (refined a L) → ⊥
+refine-blocked a L ma d w f =
+    let b = w .one in
+    let r = w .is in
+    let ne : a ≡ b → ⊥ = λ e. omega (arith, ap depth e, r .larger) in
+    let k = meets-child a (r .side) b d (r .meets) in
+    let mc = expand-kid (eqb a) L a (k .digit) ma (eq-eqb a a refl) (k .four) in
+    let mb = expand-old (eqb a) L b (r .leaf) (ne-eqb a b ne) in
+    omega (arith, f (childCode a (k .digit)) (r .side) b mc mb (r .low) (k .is) .0, depth-child a (k .digit) d, r .larger)
