@@ -5,12 +5,8 @@ ghost use Prim.Native.Nat.{_+_, _<_, _≤_};
 ghost use lib.ListN.{length, take};
 ghost use Rattle.refusals.specs.Answers.{Tells};
 ghost use Rattle.soundness.specs.Leaves.{Ascends};
-<<<<<<< HEAD
-ghost use Rattle.slots.specs.Slots.{ZerosFrom, clearedFrom};
 ghost use Rattle.soundness.specs.Inner.{Below};
-=======
-ghost use Rattle.slots.specs.Slots.{Below, ZerosFrom, clearedFrom, opened, splitAt, closed, joinAt};
->>>>>>> slots
+ghost use Rattle.slots.specs.Slots.{ZerosFrom, clearedFrom, opened, splitAt, closed, joinAt};
 
 // How many of the first `n` slots, which ascend, are less than the key; `n` if all are.
 pub fn below(slots: &[u64], n: usize, key: u64) -> usize
