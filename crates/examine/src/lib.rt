@@ -5,7 +5,7 @@ ghost use mathlib.Core.Path.{_≡_};
 ghost use Prim.Native.Nat.{_≤_};
 ghost use lib.ListN.{length};
 ghost use Rattle.solids.specs.Solids.{Known};
-ghost use Rattle.soundness.specs.Regions.{FaceSet};
+ghost use Rattle.soundness.specs.Regions.{allFaces, FaceSet};
 ghost use Rattle.examine.specs.Examined.{firstSolid, wholeOf, Examined};
 
 // What is found: more slots than a mesh may have, no sound mesh, or a sound one of so many leaves.
@@ -17,6 +17,14 @@ pub enum Seen {
 
 // The most slots that a mesh may have.
 const SLOTS: usize = 8192;
+
+// All faces of a solid, a bit for each.
+pub fn all_faces(solid: u64) -> u64
+    requires { ⌜ Known solid ⌝ }
+    ensures { λ r. ⌜ r ≡ allFaces solid ⌝ }
+{
+    (1 << solids::faces_of(solid)) - 1
+}
 
 // For the set of faces of the first slot's solid.
 fn examine_faces(slots: &[u64], solid: u64, faces: u64) -> Seen
@@ -50,5 +58,5 @@ pub fn examine(slots: &[u64]) -> Seen
     if solid < 1 {
         return Seen::Unsound;
     }
-    examine_faces(slots, solid, (1 << solids::faces_of(solid)) - 1)
+    examine_faces(slots, solid, all_faces(solid))
 }

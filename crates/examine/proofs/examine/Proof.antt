@@ -1,14 +1,14 @@
 -- A slice without a first slot of a known solid is not sound; else all faces of that solid are asked for.
 -- Assumes nothing.
-use mathlib.Core.Path.{sym, subst, _∙_, ap}
+use mathlib.Core.Path.{subst, _∙_, ap, sym}
 use Prim.Native.Nat.{ℕ}
 use native.Mathlib.Omega.{arith}
 use borrow.Author.Needs.{needs}
 use Rattle.solids.specs.Solids.{Known}
 use Rattle.soundness.specs.Regions.{allFaces, FaceSet}
 use Rattle.soundness.proofs.Fresh.{all-faces-set}
+use Rattle.examine.proofs.Examined.{sound-first}
 use Rattle.examine.specs.Examined.{wholeOf, Examined}
-use Rattle.examine.proofs.Examined.{sound-first, few, mask-some, mask-whole}
 use Rattle.examine.proofs.examine.Statement.{statement}
 use Rattle.examine.proofs.examine.Tie as tie
 
@@ -35,26 +35,20 @@ returns-3 c =
 known : (c : tie.Else3) → Known (c .before .solid-of .result)
 known c = (omega arith, omega (arith, c .before .solid-of .ensures, c .before .before .shared-slice-known2 .given 0))
 
-faces-of-requires : tie.Need-faces-of-requires
-faces-of-requires c κs = known c
-
-shl-examine-faces : tie.Need-shl-examine-faces
-shl-examine-faces c = few (c .before .before .solid-of .result) (c .faces-of .result) (c .faces-of .ensures)
-
-sub-examine-faces : tie.Need-sub-examine-faces
-sub-examine-faces c = mask-some (c .before .before .solid-of .result) (c .faces-of .result) (c .faces-of .ensures)
+all-faces-requires : tie.Need-all-faces-requires
+all-faces-requires c κs = known c
 
 examine-faces-requires : tie.Need-examine-faces-requires
 examine-faces-requires c κs =
-    let s = c .before .before .solid-of .result in
-    (omega arith, known (c .before), c .before .before .solid-of .ensures, subst (FaceSet s) (sym (mask-whole s (c .faces-of .result) (c .faces-of .ensures))) (all-faces-set s))
+    let s = c .before .before .solid-of in
+    (omega arith, known (c .before), s .ensures, subst (FaceSet (s .result)) (sym (c .all-faces .ensures)) (all-faces-set (s .result)))
 
 returns-4 : tie.Need-returns-4
 returns-4 c =
     let b = c .before in
     let s = b .before .before .solid-of in
     let xs = b .before .before .before .before .before .before .before .args .slots .now in
-    subst (λ (Q : ℕ). Examined Q xs (c .examine-faces .result)) (mask-whole (s .result) (b .faces-of .result) (b .faces-of .ensures) ∙ ap allFaces (s .ensures)) (c .examine-faces .ensures)
+    subst (λ (Q : ℕ). Examined Q xs (c .examine-faces .result)) (b .all-faces .ensures ∙ ap allFaces (s .ensures)) (c .examine-faces .ensures)
 
 pub examine-spec : {M : Type 1} → statement M
 examine-spec =
@@ -65,8 +59,6 @@ examine-spec =
     shared-slice-read-solid-of
     solid-of-requires
     returns-3
-    faces-of-requires
-    shl-examine-faces
-    sub-examine-faces
+    all-faces-requires
     examine-faces-requires
     returns-4)
