@@ -7,3 +7,5 @@ pub mod Sides
 pub mod Level
 pub mod Rows
 pub mod Across
+pub mod Slots
+pub mod Fresh
