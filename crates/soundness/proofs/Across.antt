@@ -2,8 +2,9 @@
 -- lies in a leaf, its two children on the side back where leaves lie in it, and nothing where it lies outside the faces.
 --
 --   equal-side, larger-side, smaller-side, open-side == these four
---   Side L a s == what side s of the leaf a meets
---   side-is    == each side of each leaf meets one leaf, equal or larger, or exactly two smaller, or none
+--   side-in    == a side with a neighbour on the faces meets one leaf, equal or larger, or exactly two smaller
+--   side-is    == each side does, or it meets none
+--   whole-side == on the whole solid each side does
 --
 -- Assumes nothing.
 use mathlib.Core.List.{List}
@@ -17,22 +18,18 @@ use Rattle.codes.specs.Places.{place, CodeOn, childCode, parentCode}
 use Rattle.codes.proofs.Sizes.{size-pos}
 use Rattle.steps.specs.Edges.{backNo, first, second, OnEdge, StepLaws}
 use Rattle.steps.proofs.Laws.{back<}
-use Rattle.soundness.specs.Regions.{InFaces}
+use Rattle.soundness.specs.Regions.{InFaces, allFaces}
 use Rattle.soundness.specs.Leaves.{Leaf, Holds, In, Apart}
-use Rattle.soundness.specs.Soundness.{Covers, Meets, Level}
-use Rattle.soundness.specs.Sides.{Only, MetIs}
-use Rattle.soundness.specs.declared.Met.{Met}
+use Rattle.soundness.specs.Soundness.{Covers, Meets, Level, Mesh}
+use Rattle.soundness.specs.Sides.{Only, MetIs, OneOrTwo, one-larger, one-equal, two-smaller}
 use Rattle.soundness.specs.declared.Met.the-variants.{Larger, Equal, Smaller, Open}
 use Rattle.soundness.specs.Inner.{Inner, Around, Where, equal, inner, outer}
 use Rattle.soundness.proofs.Cells.{common, past-end, inq-in, inq-out, inq-or, holds-place, in-holds, in-same, apart-holds, depth-child, place-child, child-in, child-cell, in-kid, as-kid}
 use Rattle.soundness.proofs.Leaves.{one-holder, leaves-apart, present-inq, inner-present, where-is}
+use Rattle.soundness.proofs.Fresh.{all-faces-in}
 use Rattle.soundness.proofs.Edges.{back-back, first-second, edge-four, edge-or}
 use Rattle.soundness.proofs.Sides.{over, side-place, step-apart, meets-step, meets-by, meets-in, in-meets, meets-back}
 use Rattle.soundness.proofs.Level.{meets-apart, deeper-than}
-
-pub record Side (L : List ℕ) (a s : ℕ) : Type 0 where
-  pub met : Met
-  pub is : MetIs L a s met
 
 module _ (S Q : ℕ) (step : ℕ → ℕ → ℕ) (N : StepLaws S step) (L : List ℕ) (C : Covers S Q L) (E : Level L) (a s : ℕ) (ma : Leaf L a) (l : s < 3) where
   on-a : CodeOn S a
@@ -165,10 +162,18 @@ module _ (S Q : ℕ) (step : ℕ → ℕ → ℕ) (N : StepLaws S step) (L : Lis
   open-side o x mx m =
       o (inq-out Q (step s a) (m .beyond) (N .on s a l on-a) (meets-step S step N a s x l on-a m) (inq-in Q x (m .beyond) (C .cells x mx) (m .across) (C .only x mx)))
 
-  pub side-is : Side L a s
-  side-is = ⊎-elim (λ i. go (where-is S Q L C (step s a) (N .on s a l on-a) i)) (λ o. record { met = Open; is = open-side o }) (inq-or Q (place (step s a)))
+  pub side-in : InFaces Q (place (step s a)) → OneOrTwo L a s
+  side-in i = go (where-is S Q L C (step s a) (N .on s a l on-a) i)
     where
-      go : Where L (step s a) → Side L a s
-      go (equal m) = record { met = Equal (step s a); is = equal-side m }
-      go (inner j) = record { met = Smaller (childCode (step s a) (first (backNo s))) (childCode (step s a) (second (backNo s))); is = smaller-side j }
-      go (outer r) = record { met = Larger (parentCode (step s a)); is = larger-side r }
+      go : Where L (step s a) → OneOrTwo L a s
+      go (equal m) = one-equal (step s a) (equal-side m)
+      go (inner j) = two-smaller (childCode (step s a) (first (backNo s))) (childCode (step s a) (second (backNo s))) (smaller-side j)
+      go (outer r) = one-larger (parentCode (step s a)) (larger-side r)
+
+  pub side-is : OneOrTwo L a s ⊎ MetIs L a s Open
+  side-is = ⊎-elim (λ i. inl (side-in i)) (λ o. inr (open-side o)) (inq-or Q (place (step s a)))
+
+pub whole-side : (S : ℕ) (step : ℕ → ℕ → ℕ) → StepLaws S step → (L : List ℕ) → Mesh S (allFaces S) L → (a s : ℕ) → Leaf L a → s < 3 → OneOrTwo L a s
+whole-side S step N L M a s ma l =
+    let w = N .on s a l (M .covers .cells a ma) in
+    side-in S (allFaces S) step N L (M .covers) (M .level) a s ma l (all-faces-in S (place (step s a)) (w .from) (w .below))
