@@ -2,13 +2,14 @@
 // that the slots hold a mesh, and know how many leaves it has.
 
 ghost use mathlib.Core.Path.{_≡_};
-ghost use Prim.Native.Nat.{_≤_, _<_};
-ghost use lib.ListN.{length, take};
+ghost use Prim.Native.Nat.{_+_, _<_, _≤_};
+ghost use lib.ListN.{length, getD, take};
 ghost use Rattle.solids.specs.Solids.{Known};
 ghost use Rattle.codes.specs.Codes.{Code, depth};
-ghost use Rattle.soundness.specs.Leaves.{Ascends, pad};
-ghost use Rattle.soundness.specs.Changes.{freshLeaves};
-ghost use Rattle.leaves.specs.Leaves.{Covered, LeafAt, FourAt, RunOf};
+ghost use Rattle.codes.specs.Places.{childCode};
+ghost use Rattle.soundness.specs.Leaves.{Ascends, leaves, pad};
+ghost use Rattle.soundness.specs.Changes.{freshLeaves, refined, coarsened};
+ghost use Rattle.leaves.specs.Leaves.{Covered, Filled, LeafAt, FourAt, RunOf};
 
 // A place among the leaves, or none.
 pub enum Found {
@@ -70,7 +71,10 @@ pub fn run_of(slots: &[u64], n: usize, cell: u64) -> Run
 {
     let depth = codes::depth_of(cell);
     let past = cell - depth + (1 << (57 - 2 * depth));
-    Run { from: slots::below(slots, n, cell), to: slots::below(slots, n, past) }
+    Run {
+        from: slots::below(slots, n, cell),
+        to: slots::below(slots, n, past),
+    }
 }
 
 // How many faces of the solid are in the set.
@@ -104,4 +108,26 @@ pub fn fresh_into(slots: &mut [u64], solid: u64, faces: u64)
         face += 1;
     }
     slots::clear_from(slots, n);
+}
+
+// Splits the leaf at `at`: its four children stand in its place, and the later leaves move up three slots.
+pub fn split_leaf(slots: &mut [u64], n: usize, at: usize)
+    requires { ⌜ Filled (now slots) n × (n + 3 ≤ length (now slots)) × (at < n) × Code (getD (now slots) at 0) × (depth (getD (now slots) at 0) < 26) ⌝ }
+    ensures { λ _. ⌜ now (slots .exit) ≡ pad (length (now (slots .entry))) (refined (getD (now (slots .entry)) at 0) (leaves (now (slots .entry)))) ⌝ }
+{
+    let code = slots[at];
+    let a = codes::child_of(code, 0);
+    let b = codes::child_of(code, 1);
+    let c = codes::child_of(code, 2);
+    let d = codes::child_of(code, 3);
+    slots::split(slots, at, n, a, b, c, d);
+}
+
+// Joins the four leaves from `at` on, the children of the cell: they become that one leaf, and the later leaves move down
+// three slots. That they are the children is asked of the first alone: the others stand after it.
+pub fn join_leaves(slots: &mut [u64], n: usize, at: usize, cell: u64)
+    requires { ⌜ Filled (now slots) n × (at + 4 ≤ n) × (getD (now slots) at 0 ≡ childCode cell 0) ⌝ }
+    ensures { λ _. ⌜ now (slots .exit) ≡ pad (length (now (slots .entry))) (coarsened cell (leaves (now (slots .entry)))) ⌝ }
+{
+    slots::join(slots, at, n, cell);
 }
