@@ -2,12 +2,11 @@
 -- parent of a child is the cell, and a cell is a child of its parent; a child's corners are those of the table; an ancestor
 -- comes before its descendants.
 -- Assumes nothing.
-use mathlib.Core.List.{List, [], _∷_, _++_}
-use mathlib.Core.Logic.{inl, inr}
-use mathlib.Core.Path.{_≡_, refl, ap, sym, _∙_, subst}
-use Prim.Native.Nat.{ℕ, suc, _+_, _<_, _≤_}
+use mathlib.Core.List.{List, [], _∷_}
+use mathlib.Core.Logic.{inr}
+use mathlib.Core.Path.{_≡_, ap, sym, _∙_, subst}
+use Prim.Native.Nat.{ℕ, suc, _<_, _≤_}
 use native.Mathlib.Omega.{arith}
-use lib.ListN.{length, length-append}
 use Rattle.solids.specs.Triangles.{Corner}
 use Rattle.refusals.specs.Refusals.{DIGIT, DEEP, ROOT, Single}
 use Rattle.refusals.specs.Answers.{done, refused}
@@ -15,13 +14,13 @@ use Rattle.refusals.proofs.Refusals.{need-single, is-single, met}
 use Rattle.refusals.proofs.Answers.{done-differs, done-one}
 use Rattle.geometry.specs.Corners.{Digit, childCorners, corners}
 use Rattle.geometry.specs.Paths.{digitNo, digitOf}
-use Rattle.geometry.specs.Cells.{Cell, WellFormed, depthOf, corner, parent, child, under}
+use Rattle.geometry.specs.Cells.{Cell, depthOf, corner, parent, child, under}
 use Rattle.geometry.proofs.Paths.{digit<4, digit-no}
-use Rattle.codes.specs.Codes.{solid, face, path, depth, joined, Formed, Code, cellOf, codeOf, Descends}
+use Rattle.codes.specs.Codes.{solid, face, path, depth, joined, Code, cellOf, codeOf, Descends}
 use Rattle.codes.specs.Calls.{Checked, Packed, Unpacking, unpacked, notUnpacked, Unpacked, parentEnd, ParentOf, childEnd, ChildOf, SomeChild}
 use Rattle.codes.proofs.Faults.{faults-single, passed, go-on, code-single, code-passed, code-on}
-use Rattle.codes.proofs.Codes.{formed-back, whole, code-formed, cell-code, code-cell, cell-formed, cell-depth, cell-deep}
-use Rattle.codes.proofs.Family.{child-code, Born, born}
+use Rattle.codes.proofs.Codes.{formed-back, whole, code-formed, cell-code, code-cell, cell-formed, cell-depth, cell-deep, one-code}
+use Rattle.codes.proofs.Family.{child-code, born}
 
 -- one answer
 
@@ -137,10 +136,10 @@ under-after c q [] h = omega (arith, child-code c q h)
 under-after c q (e ∷ es) h = omega (arith, under-after c e es (omega arith), child-code (under c (e ∷ es)) q h)
 
 pub ancestor-before : (x y : ℕ) → Code x → Code y → Descends x y → x < y
-ancestor-before x y a b d = go (d .digits) (d .some) (d .inside)
+ancestor-before x y a b d = go (d .within .digits) (d .within .inside)
   where
-    go : (es : List Digit) → 0 < length es → cellOf y ≡ under (cellOf x) es → x < y
-    go [] h e = absurd (omega arith)
-    go (q ∷ es) h e =
+    go : (es : List Digit) → cellOf y ≡ under (cellOf x) es → x < y
+    go [] e = absurd (d .other (one-code y x b a e))
+    go (q ∷ es) e =
         let l : depthOf (under (cellOf x) (q ∷ es)) ≤ 26 = subst (λ (c : Cell). depthOf c ≤ 26) e (cell-deep y b) in
         omega (arith, under-after (cellOf x) q es l, code-cell x a, code-cell y b, ap codeOf e)

@@ -7,7 +7,7 @@
 -- Assumes nothing.
 use mathlib.Core.List.{List}
 use mathlib.Core.Path.{_≡_, ap, sym, _∙_, subst}
-use Prim.Native.Nat.{ℕ, _+_, _-_, _*_, _/_, _%_, _^_, _<_, _≤_}
+use Prim.Native.Nat.{ℕ, _-_, _*_, _/_, _^_, _<_, _≤_}
 use native.Mathlib.Nat.{mul-lt-mul-of-pos-right, mul-div-cancel, mul-mod-left, div-add-mod', div-lt-iff-lt-mul}
 use native.Mathlib.Omega.{arith}
 use lib.ListN.{length}

@@ -5,3 +5,4 @@ pub mod Words
 pub mod Family
 pub mod Places
 pub mod Calls
+pub mod Finest

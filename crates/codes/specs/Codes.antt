@@ -6,11 +6,13 @@
 --   Formed s f p d                   == the fields are those of a cell
 --   Code x                           == x is a well-formed code
 --   cellOf x, codeOf c               == the cell of a code, the code of a cell
---   Descends x y                     == the cell of y lies strictly inside that of x
+--   Within x y                       == the cell of y is that of x or lies inside it
+--   Descends x y                     == y is another code within x: x is an ancestor of y
 --   faults, codeFaults               == refusals 1 to 4, in their sequence, for four fields and for a code
 --
 -- Assumes nothing.
 use mathlib.Core.List.{List}
+use mathlib.Core.Logic.{_≢_}
 use mathlib.Core.Path.{_≡_}
 use Prim.Native.Nat.{ℕ, _+_, _-_, _*_, _/_, _%_, _^_, _<_, _≤_}
 use lib.ListN.{length}
@@ -59,10 +61,13 @@ pathOf ds = number ds * size (length ds)
 unfoldable pub codeOf : Cell → ℕ
 codeOf c = joined (solidNo (c .solid)) (c .face) (pathOf (c .path)) (depthOf c)
 
-pub record Descends (x y : ℕ) : Type 0 where
+pub record Within (x y : ℕ) : Type 0 where
   pub digits : List Digit
-  pub some : 0 < length digits
   pub inside : cellOf y ≡ under (cellOf x) digits
+
+pub record Descends (x y : ℕ) : Type 0 where
+  pub within : Within x y
+  pub other : y ≢ x
 
 -- "First cause in the sequence wins. Pure calls: 1, 2, 3, 4, then ..": `out k` is the answer that refuses by the number k.
 abbrev pub faults : {A : Type 0} → (ℕ → A) → ℕ → ℕ → ℕ → ℕ → (A → Type 0) → A → Type 0

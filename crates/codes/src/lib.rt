@@ -1,14 +1,15 @@
 // Codes of triangles: 2 bits solid, 5 bits face, 52 bits path, 5 bits depth.
 
 ghost use mathlib.Core.Path.{_≡_};
-ghost use Prim.Native.Nat.{ℕ, _+_, _-_, _*_, _/_, _%_, _^_, _≤_, _<_};
+ghost use Prim.Native.Nat.{ℕ, _+_, _-_, _*_, _^_, _≤_, _<_};
 ghost use Rattle.solids.specs.Triangles.{Corner};
 ghost use Rattle.refusals.specs.Refusals.{Single};
 ghost use Rattle.refusals.specs.Answers.{done, reply};
 ghost use Rattle.geometry.specs.Corners.{childCorners};
 ghost use Rattle.geometry.specs.Paths.{digitOf};
 ghost use Rattle.geometry.specs.Cells.{Cell, WellFormed, depthOf, corner, parent, child};
-ghost use Rattle.codes.specs.Codes.{solid, face, path, depth, joined, faults, Code, cellOf, codeOf, Descends};
+ghost use Rattle.codes.specs.Codes.{solid, face, path, depth, joined, faults, Code, cellOf, codeOf, Within, Descends};
+ghost use Rattle.codes.specs.Places.{place, past, codeAt};
 ghost use Rattle.codes.specs.Calls.{Checked, Packed, unpacked, Unpacked, fields, ParentOf, ChildOf, SomeChild};
 use refusals::Answer;
 
@@ -193,4 +194,10 @@ pub fn a_child_has_the_corners_of_the_table()
 // Numeric order of codes puts an ancestor before its descendants.
 pub fn an_ancestor_comes_before_its_descendants()
     ensures { λ _. ⌜ ((x y : ℕ) → Code x → Code y → Descends x y → x < y) ⌝ }
+{}
+
+// The cells of depth 26 inside a cell are those at the places of its interval.
+pub fn a_cell_is_an_interval_of_places()
+    ensures { λ _. ⌜ ((x g : ℕ) → Code x → place x ≤ g → g < past x → Within x (codeAt g 26)) ⌝ }
+    ensures { λ _. ⌜ ((x g : ℕ) → Code x → Code (codeAt g 26) → Within x (codeAt g 26) → (place x ≤ g) × (g < past x)) ⌝ }
 {}

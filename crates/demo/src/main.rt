@@ -1,4 +1,4 @@
-// A short tour of one cell: its parts, its parent, its children, and points located around it.
+// A short tour of one cell: its parts, the cell to its right, its parent, its children; a point; two refusals.
 
 use libc::STDOUT_FILENO;
 
@@ -22,6 +22,7 @@ fn main() {
     number_line(b"solid    ", fields[0]);
     number_line(b"face     ", fields[1]);
     number_line(b"depth    ", fields[3]);
+    code_line(b"right    ", urdinhosa::urdinhosa_step(code, 1));
     code_line(b"parent   ", urdinhosa::urdinhosa_parent(code));
     code_line(b"child 00 ", urdinhosa::urdinhosa_child(code, 0));
     code_line(b"child 01 ", urdinhosa::urdinhosa_child(code, 1));

@@ -11,11 +11,11 @@ use native.Mathlib.Omega.{arith}
 use lib.ListN.{length, getD}
 use Rattle.solids.specs.Triangles.{Corner, tip, lft, rgt}
 use Rattle.solids.specs.Solids.{Solid, tetrahedron, octahedron, icosahedron, faces, vertices, vertex}
-use Rattle.solids.proofs.Seams.{vertex<, vertex-one}
-use Rattle.geometry.specs.Weights.{_⊕_, δ, total}
+use Rattle.solids.proofs.Seams.{vertex<}
+use Rattle.geometry.specs.Weights.{_⊕_, total}
 use Rattle.geometry.specs.Corners.{Digit, d00, d01, d10, d11, Triangle, childCorners, corners}
 use Rattle.geometry.specs.Cells.{Cell, WellFormed, depthOf, faceCorners, corner}
-use Rattle.geometry.proofs.Weights.{getD-⊕, length-⊕, total-⊕, getD-unit, length-unit, total-unit, δ-same, δ-other}
+use Rattle.geometry.proofs.Weights.{getD-⊕, length-⊕, total-⊕, length-unit, total-unit}
 
 abbrev pub one : Digit → Corner → Corner
 one d00 tip = tip
@@ -90,39 +90,6 @@ twelve-vertices icosahedron = omega arith
 
 pub vertex<12 : (so : Solid) (f : ℕ) → f < faces so → (p : Corner) → vertex so f p < 12
 vertex<12 so f h p = omega (arith, vertex< so f h p, twelve-vertices so)
-
--- a face's corner weighs 1 at its own vertex, and 0 at those of the face's other two corners
-abbrev pub same : Corner → Corner → ℕ
-same tip tip = 1
-same tip lft = 0
-same tip rgt = 0
-same lft tip = 0
-same lft lft = 1
-same lft rgt = 0
-same rgt tip = 0
-same rgt lft = 0
-same rgt rgt = 1
-
-module _ (so : Solid) (f : ℕ) (h : f < faces so) where
-  own : (p : Corner) → δ (vertex so f p) (vertex so f p) ≡ 1
-  own p = δ-same (vertex so f p)
-
-  other : (p q : Corner) → (p ≡ q → ⊥) → δ (vertex so f p) (vertex so f q) ≡ 0
-  other p q n = δ-other (vertex so f p) (vertex so f q) (λ e. n (vertex-one so f h p q e))
-
-  pub vertex-δ : (p q : Corner) → δ (vertex so f p) (vertex so f q) ≡ same p q
-  vertex-δ tip tip = own tip
-  vertex-δ tip lft = other tip lft (λ e. let z : _≡_ {A = ℕ} 0 1 = cc in omega arith)
-  vertex-δ tip rgt = other tip rgt (λ e. let z : _≡_ {A = ℕ} 0 1 = cc in omega arith)
-  vertex-δ lft tip = other lft tip (λ e. let z : _≡_ {A = ℕ} 0 1 = cc in omega arith)
-  vertex-δ lft lft = own lft
-  vertex-δ lft rgt = other lft rgt (λ e. let z : _≡_ {A = ℕ} 0 1 = cc in omega arith)
-  vertex-δ rgt tip = other rgt tip (λ e. let z : _≡_ {A = ℕ} 0 1 = cc in omega arith)
-  vertex-δ rgt lft = other rgt lft (λ e. let z : _≡_ {A = ℕ} 0 1 = cc in omega arith)
-  vertex-δ rgt rgt = own rgt
-
-  pub face-weight : (p q : Corner) → getD (faceCorners so f p) (vertex so f q) 0 ≡ same p q
-  face-weight p q = getD-unit 12 (vertex so f p) (vertex so f q) (vertex<12 so f h p) ∙ vertex-δ p q
 
 -- a corner has twelve weights
 pub twelve : (c : Cell) (p : Corner) → length (corner c p) ≡ 12

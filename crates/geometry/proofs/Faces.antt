@@ -10,12 +10,15 @@ use mathlib.Core.Path.{_≡_, refl, ap, sym, _∙_}
 use Prim.Native.Nat.{ℕ, _+_, _<_, _≤_}
 use native.Mathlib.Omega.{arith}
 use lib.Dec.{T, leb, eqb, le→leb, eqb→eq}
+use lib.ListN.{getD}
 use Rattle.solids.specs.Triangles.{Corner, tip, lft, rgt, Side, end₀, end₁}
 use Rattle.solids.specs.Solids.{Solid, tetrahedron, octahedron, icosahedron, faces, faceList, vertex, nextRow, nextFace}
 use Rattle.solids.proofs.Tests.{and-l, and-r, and-i, or-cases, implies, below, below-at, corners-all, sides-all, sides-at}
 use Rattle.solids.proofs.Seams.{same, vertex-one}
 use Rattle.geometry.specs.Weights.{δ}
-use Rattle.geometry.proofs.Weights.{δ-same, δ-other}
+use Rattle.geometry.specs.Cells.{faceCorners}
+use Rattle.geometry.proofs.Weights.{getD-unit, δ-same, δ-other}
+use Rattle.geometry.proofs.Corners.{vertex<12}
 
 -- the corners of a triangle are three: `apart tip lft refl`
 pub apart : (p q : Corner) → same p q ≡ false → p ≢ q
@@ -29,6 +32,13 @@ apart p q e r = true≢false (sym (same-self q) ∙ ap (λ (x : Corner). same x 
 -- and so are the vertices at the corners of a face
 pub vertex-apart : (so : Solid) (f : ℕ) → f < faces so → (p q : Corner) → p ≢ q → δ (vertex so f p) (vertex so f q) ≡ 0
 vertex-apart so f h p q n = δ-other (vertex so f p) (vertex so f q) (λ e. n (vertex-one so f h p q e))
+
+-- so a face's corner weighs 1 at its own vertex, and nothing at those of the other two
+pub own-weight : (so : Solid) (f : ℕ) → f < faces so → (p : Corner) → getD (faceCorners so f p) (vertex so f p) 0 ≡ 1
+own-weight so f h p = getD-unit 12 (vertex so f p) (vertex so f p) (vertex<12 so f h p) ∙ δ-same (vertex so f p)
+
+pub no-weight : (so : Solid) (f : ℕ) → f < faces so → (p q : Corner) → same p q ≡ false → _≡_ {A = ℕ} (getD (faceCorners so f p) (vertex so f q) 0) 0
+no-weight so f h p q e = getD-unit 12 (vertex so f p) (vertex so f q) (vertex<12 so f h p) ∙ vertex-apart so f h p q (apart p q e)
 
 abbrev pub on : Solid → ℕ → ℕ → ℕ
 on so f v = δ (vertex so f tip) v + δ (vertex so f lft) v + δ (vertex so f rgt) v

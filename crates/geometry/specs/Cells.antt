@@ -12,7 +12,6 @@
 use mathlib.Core.List.{List, [], _∷_, _++_}
 use Prim.Native.Nat.{ℕ, _<_}
 use lib.ListN.{length}
-use Rattle.solids.specs.Triangles.{Corner}
 use Rattle.solids.specs.Solids.{Solid, faces, vertex}
 use Rattle.geometry.specs.Weights.{unit}
 use Rattle.geometry.specs.Corners.{Digit, Triangle, corners}

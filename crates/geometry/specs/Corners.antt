@@ -9,7 +9,7 @@
 -- A path is a list of digits with its LAST digit first: a cell's parent is the rest of the list.
 --
 -- Assumes nothing.
-use mathlib.Core.Bool.{Bool, true, false, not}
+use mathlib.Core.Bool.{Bool, true, not}
 use mathlib.Core.List.{List, [], _∷_}
 use Prim.Native.Nat.{ℕ}
 use Rattle.solids.specs.Triangles.{Corner, tip, lft, rgt}

@@ -11,7 +11,8 @@ use Rattle.solids.specs.Solids.{Solid, faces, vertex}
 use Rattle.geometry.specs.Corners.{Digit, d00, d01, d10, d11, Triangle, childCorners, corners}
 use Rattle.geometry.specs.Paths.{number}
 use Rattle.geometry.specs.Cells.{cell, faceCorners}
-use Rattle.geometry.proofs.Corners.{one, two, child-weight, face-weight}
+use Rattle.geometry.proofs.Corners.{one, two, child-weight}
+use Rattle.geometry.proofs.Faces.{own-weight, no-weight}
 use Rattle.codes.specs.Codes.{size, codeOf}
 use Rattle.points.specs.Points.{Weights, sum, down, pathTo, weighed, pointOf, Holds}
 use Rattle.points.proofs.Lifting.{lift, liftAll, weights-eq}
@@ -42,13 +43,13 @@ reached-holds so f d w e h = record {
 -- at the vertex of each corner a face weighs that corner's weight and nothing else, so a point has one triple of weights
 module _ (so : Solid) (f : ℕ) (h : f < faces so) where
   at-tip : (w : Weights) → pointOf so f w (vertex so f tip) ≡ w .t
-  at-tip w = rw (face-weight so f h tip tip, face-weight so f h lft tip, face-weight so f h rgt tip) (omega arith)
+  at-tip w = rw (own-weight so f h tip, no-weight so f h lft tip refl, no-weight so f h rgt tip refl) (omega arith)
 
   at-lft : (w : Weights) → pointOf so f w (vertex so f lft) ≡ w .l
-  at-lft w = rw (face-weight so f h tip lft, face-weight so f h lft lft, face-weight so f h rgt lft) (omega arith)
+  at-lft w = rw (no-weight so f h tip lft refl, own-weight so f h lft, no-weight so f h rgt lft refl) (omega arith)
 
   at-rgt : (w : Weights) → pointOf so f w (vertex so f rgt) ≡ w .r
-  at-rgt w = rw (face-weight so f h tip rgt, face-weight so f h lft rgt, face-weight so f h rgt rgt) (omega arith)
+  at-rgt w = rw (no-weight so f h tip rgt refl, no-weight so f h lft rgt refl, own-weight so f h rgt) (omega arith)
 
   lifted : (ds : List Digit) (w : Weights) → (k : Holds (cell so f ds) (pointOf so f w)) → liftAll ds (k .by) ≡ w
   lifted ds w k =

@@ -5,7 +5,7 @@ use mathlib.Core.Path.{_≡_, ap, ap₂, sym, _∙_, subst}
 use Prim.Native.Nat.{ℕ, _+_, _-_, _*_, _%_, _^_, _<_, _≤_}
 use native.Mathlib.Nat.{zero-mod}
 use native.Mathlib.Omega.{arith}
-use Rattle.solids.specs.Solids.{Known, solidNo, solidOf, faces}
+use Rattle.solids.specs.Solids.{Known, solidOf, faces}
 use Rattle.solids.proofs.Numbers.{no-solid}
 use Rattle.refusals.specs.Refusals.{SOLID, FACE, DEPTH, POINT, Single}
 use Rattle.refusals.specs.Answers.{done, refused}
@@ -13,7 +13,7 @@ use Rattle.refusals.proofs.Refusals.{need-single, is-single, met}
 use Rattle.refusals.proofs.Answers.{done-differs, done-one}
 use Rattle.geometry.specs.Paths.{number}
 use Rattle.geometry.specs.Cells.{Cell, cell, depthOf}
-use Rattle.codes.specs.Codes.{solid, face, depth, joined, size, Code, faults, pathOf, cellOf, codeOf}
+use Rattle.codes.specs.Codes.{joined, size, faults, pathOf, cellOf, codeOf}
 use Rattle.codes.proofs.Sizes.{size-two}
 use Rattle.codes.proofs.Codes.{path-fits, cell-back, code-formed, cell-code, code-cell, cell-depth}
 use Rattle.points.specs.Points.{weights, pathTo, pointOf, Holds}

@@ -8,7 +8,7 @@ use native.Mathlib.Omega.{arith}
 use lib.Dec.{eqb, ltb, leb}
 use lib.ListN.{length, getD}
 use Rattle.solids.specs.Triangles.{Side, left, right, vertical, sideOf, Corner, tip, lft, rgt, cornerOf}
-use Rattle.solids.specs.Solids.{Solid, tetrahedron, octahedron, icosahedron, faces, Face, face, faceList, at, vertex, nextRow, nextFace, mirrored}
+use Rattle.solids.specs.Solids.{Solid, tetrahedron, octahedron, icosahedron, faces, face, faceList, at, vertex, nextRow, nextFace, mirrored}
 
 -- the rows for a function of the sides, of the corners
 abbrev pub bySide : {A : Type 0} → (Side → A) → List A

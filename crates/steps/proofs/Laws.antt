@@ -2,7 +2,7 @@
 -- and the cell of the code.
 -- Assumes nothing.
 use mathlib.Core.Bool.{Bool, true, false, true≢false}
-use mathlib.Core.Logic.{_⊎_, inl, inr}
+use mathlib.Core.Logic.{inl, inr}
 use mathlib.Core.Path.{_≡_, refl, ap, ap₂, sym, _∙_, subst}
 use Prim.Native.Nat.{ℕ, zero, suc, _<_, _≤_}
 use native.Mathlib.Omega.{arith}
@@ -24,7 +24,7 @@ use Rattle.codes.specs.Codes.{solid, depth, Code, cellOf, codeOf}
 use Rattle.codes.specs.Places.{CodeOn, childCode}
 use Rattle.codes.specs.Calls.{parentEnd, ParentOf}
 use Rattle.codes.proofs.Faults.{code-on}
-use Rattle.codes.proofs.Codes.{code-formed, cell-code, code-cell, cell-formed, cell-depth, cell-deep}
+use Rattle.codes.proofs.Codes.{cell-code, code-cell, cell-formed, cell-depth, cell-deep}
 use Rattle.codes.proofs.Family.{born}
 use Rattle.codes.proofs.Calls.{parent-done}
 use Rattle.codes.proofs.Places.{code-on-solid, solid-is, on-solid-code, child-place, child-cell}

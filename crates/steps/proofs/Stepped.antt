@@ -6,7 +6,7 @@ use mathlib.Core.Logic.{inl, inr}
 use mathlib.Core.Path.{_≡_, refl, ap, ap₂, sym, _∙_}
 use Prim.Native.Nat.{ℕ, _<_, _≤_}
 use native.Mathlib.Omega.{arith}
-use lib.ListN.{length, length-map}
+use lib.ListN.{length-map}
 use Rattle.solids.specs.Triangles.{sideOf}
 use Rattle.solids.specs.Solids.{Solid, solidOf, nextFace, mirrored}
 use Rattle.solids.proofs.Numbers.{no-solid, faces-few}
@@ -15,7 +15,7 @@ use Rattle.refusals.specs.Refusals.{DIRECTION, need, Single}
 use Rattle.refusals.specs.Answers.{done, refused}
 use Rattle.refusals.proofs.Refusals.{need-single, met}
 use Rattle.geometry.specs.Corners.{Digit}
-use Rattle.geometry.specs.Cells.{Cell, depthOf}
+use Rattle.geometry.specs.Cells.{depthOf}
 use Rattle.geometry.specs.Steps.{walked, crosses, mirror, wayOf, way, moved, step}
 use Rattle.geometry.specs.Neighbours.{Neighbour}
 use Rattle.geometry.proofs.Across.{length-walked}

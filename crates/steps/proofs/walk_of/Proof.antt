@@ -2,7 +2,7 @@
 -- Assumes nothing.
 use Rattle.steps.specs.Words.{Over}
 use mathlib.Core.Path.{_∙_}
-use Prim.Native.Nat.{_-_, ℕ, _*_, _%_, _^_}
+use Prim.Native.Nat.{_-_, _*_, _%_, _^_}
 use borrow.Author.Needs.{needs}
 use Rattle.steps.proofs.Words.{walk-fits, over-told, over-tidy, go-inside, over-walked}
 use Rattle.steps.proofs.walk_of.Statement.{statement}

@@ -1,0 +1,67 @@
+-- What the calls on a mesh leave: the reply, and every slot of the lent slice.
+--
+--   Outcome        == a reply and the slots after the call
+--   change e       == the number and value of each case of the enum Change
+--   Crossing       == number, level difference and two codes
+--   crossing m     == those of what a side meets
+--   across e       == those of each case of the enum Across
+--   counted e      == the number and value of each case of the enum Counted
+--
+-- Assumes nothing.
+use mathlib.Core.List.{List}
+use Prim.Native.Nat.{ℕ}
+use lib.IntN.{ℤ, pos, negsuc}
+use Rattle.refusals.specs.Refusals.{BLOCKED}
+use Rattle.refusals.specs.Answers.{Reply, done, refused}
+use Rattle.soundness.specs.declared.Met.{Met}
+use Rattle.soundness.specs.declared.Met.the-variants.{Larger, Equal, Smaller, Open}
+use Rattle.mesh.specs.declared.Change.{Change}
+use Rattle.mesh.specs.declared.Change.the-variants as change
+use Rattle.mesh.specs.declared.Across.{Across}
+use Rattle.mesh.specs.declared.Across.the-variants as across
+use Rattle.mesh.specs.declared.Counted.{Counted}
+use Rattle.mesh.specs.declared.Counted.the-variants as counted
+
+pub record Outcome : Type 0 where
+  pub reply : Reply
+  pub slots : List ℕ
+
+abbrev pub outcome : Reply → List ℕ → Outcome
+outcome r ys = record { reply = r; slots = ys }
+
+-- "A refusal returns its number and 0 in every other part of the answer, except 14": the value is the least blocking leaf.
+abbrev pub blocked : ℕ → Reply
+blocked b = record { number = BLOCKED; value = b }
+
+abbrev pub changeReply : Change → Reply
+changeReply change.Made = done 0
+changeReply (change.Blocked b) = blocked b
+changeReply (change.Refused k) = refused k
+
+pub record Crossing : Type 0 where
+  pub number : ℕ
+  pub level : ℤ
+  pub first : ℕ
+  pub second : ℕ
+
+abbrev pub crossed : ℤ → ℕ → ℕ → Crossing
+crossed d b c = record { number = 0; level = d; first = b; second = c }
+
+-- "the neighbouring leaf's level minus its own, −1, 0 or 1, and the code, or both codes ascending when it is 1; else the
+-- second code is 0"
+abbrev pub crossing : Met → Crossing
+crossing (Larger b) = crossed (negsuc 0) b 0
+crossing (Equal b) = crossed (pos 0) b 0
+crossing (Smaller b c) = crossed (pos 1) b c
+crossing Open = crossed (pos 0) 0 0
+
+abbrev pub notCrossed : ℕ → Crossing
+notCrossed k = record { number = k; level = pos 0; first = 0; second = 0 }
+
+abbrev pub acrossReply : Across → Crossing
+acrossReply (across.Side m) = crossing m
+acrossReply (across.Refused k) = notCrossed k
+
+abbrev pub countReply : Counted → Reply
+countReply (counted.Leaves n) = done n
+countReply (counted.Refused k) = refused k

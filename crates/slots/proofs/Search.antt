@@ -1,0 +1,55 @@
+-- Search by halves: of slots that ascend, one settles all on one side of it.
+-- Assumes nothing.
+use mathlib.Core.List.{List, [], _∷_}
+use mathlib.Core.Logic.{inl, inr}
+use mathlib.Core.Path.{_≡_, refl}
+use Prim.Native.Nat.{ℕ, zero, suc, _+_, _<_, _≤_}
+use native.Mathlib.Omega.{arith}
+use lib.ListN.{length, getD}
+use Rattle.soundness.specs.Leaves.{Leaf, Ascends}
+use Rattle.soundness.specs.Inner.{Below}
+
+leaf-at : (L : List ℕ) (i : ℕ) → i < length L → Leaf L (getD L i 0)
+leaf-at [] i h = absurd (omega arith)
+leaf-at (x ∷ L) zero h = inl refl
+leaf-at (x ∷ L) (suc i) h = inr (leaf-at L i (omega arith))
+
+ascends-at : (L : List ℕ) → Ascends L → (i j : ℕ) → i ≤ j → j < length L → getD L i 0 ≤ getD L j 0
+ascends-at [] a i j l h = absurd (omega arith)
+ascends-at (x ∷ L) a zero zero l h = omega arith
+ascends-at (x ∷ L) a zero (suc j) l h = omega (arith, a .0 (getD L j 0) (leaf-at L j (omega arith)))
+ascends-at (x ∷ L) a (suc i) zero l h = absurd (omega arith)
+ascends-at (x ∷ L) a (suc i) (suc j) l h = ascends-at L (a .1) i j (omega arith) (omega arith)
+
+-- where the search stands: those before lo are less than the key, those from hi on are not
+pub record Halved (L : List ℕ) (key lo hi : ℕ) : Type 0 where
+  pub order : lo ≤ hi
+  pub upto : hi ≤ length L
+  pub less : (i : ℕ) → i < lo → getD L i 0 < key
+  pub rest : (i : ℕ) → hi ≤ i → i < length L → key ≤ getD L i 0
+
+pub halved-none : (L : List ℕ) (key hi : ℕ) → length L ≡ hi → Halved L key 0 hi
+halved-none L key hi e = record { order = omega arith; upto = omega arith; less = λ i h. absurd (omega arith); rest = λ i h k. absurd (omega arith) }
+
+module _ (L : List ℕ) (key lo hi mid : ℕ) (a : Ascends L) (p : Halved L key lo hi) (low : lo ≤ mid) (high : mid < hi) where
+  pub halved-up : getD L mid 0 < key → Halved L key (mid + 1) hi
+  halved-up h =
+      record {
+        order = omega arith;
+        upto = p .upto;
+        less = λ i l. omega (arith, ascends-at L a i mid (omega arith) (omega (arith, p .upto)));
+        rest = p .rest;
+      }
+
+  pub halved-down : key ≤ getD L mid 0 → Halved L key lo mid
+  halved-down h =
+      record {
+        order = low;
+        upto = omega (arith, p .upto);
+        less = p .less;
+        rest = λ i l k. omega (arith, ascends-at L a mid i l k);
+      }
+
+pub halved-done : (L : List ℕ) (key lo hi : ℕ) → Halved L key lo hi → hi ≤ lo → Below L key lo
+halved-done L key lo hi p h =
+    record { upto = omega (arith, p .order, p .upto); less = p .less; rest = λ i l k. p .rest i (omega (arith, p .order)) k }
