@@ -121,7 +121,8 @@ module _ (S Q : ℕ) (step : ℕ → ℕ → ℕ) (N : StepLaws S step) (L : Lis
       let n = step s a in
       let four = edge-four (backNo s) m on in
       let p = edge-place m d on in
-      edge-held j m d four p (inner-held S Q L C n (p .at) (N .on s a l on-a) j (in-holds (childCode n m) n (p .at) (child-in n m d four) (p .inside)))
+      let h = in-holds (childCode n m) n (p .at) (child-in n m d four) (p .inside) in
+      edge-held j m d four p (inner-held S Q L C n (p .at) (N .on s a l on-a) j h)
 
   -- a child of the neighbour that meets a is on the side back: the others step to children of the neighbour, not to a
   on-edge : (x q : ℕ) → depth (step s a) < 26 → q < 4 → x ≡ childCode (step s a) q → In (step (backNo s) x) a →

@@ -33,7 +33,23 @@ use Rattle.soundness.proofs.Tiles.{tiles-split, kids-tiles, splice, til
 use Rattle.soundness.proofs.Leaves.{asc-at, leaf-append, leaf-left, leaf-right, one-holder}
 use Rattle.soundness.proofs.Expanded.{kids-leaf}
 
--- side by side
+-- lists
+
+coarsen-parts : (c : ℕ) (A B : List ℕ) → Ascends (A ++ (childCode c 0 ∷ B)) → coarsened c (A ++ (childCode c 0 ∷ B)) ≡ A ++ (c ∷ drop 3 B)
+coarsen-parts c [] B a =
+    ap (λ (b : Bool). cond b (c ∷ drop 3 B) (childCode c 0 ∷ coarsened c B)) (eq-eqb (childCode c 0) (childCode c 0) refl)
+coarsen-parts c (x ∷ A) B a =
+    let M = A ++ (childCode c 0 ∷ B) in
+    let l = a .0 (childCode c 0) (leaf-right A (childCode c 0 ∷ B) (childCode c 0) (inl refl)) in
+    ap (λ (b : Bool). cond b (c ∷ drop 3 M) (x ∷ coarsened c M)) (ne-eqb (childCode c 0) x (λ e. omega arith))
+    ∙ ap (λ (t : List ℕ). x ∷ t) (coarsen-parts c A B (a .1))
+
+index-one : (L : List ℕ) → Ascends L → (i j : ℕ) → i < length L → j < length L → getD L i 0 ≡ getD L j 0 → i ≡ j
+index-one L a i j h k e =
+    ⊎-elim
+    (λ (l : i ≤ j). ⊎-elim (λ (m : j ≤ i). le-antisymm l m) (λ (m : i < j). absurd (omega (arith, asc-at L a i j m k))) (le-or-lt j i))
+    (λ (l : j < i). absurd (omega (arith, asc-at L a j i l h)))
+    (le-or-lt i j)
 
 record Found (L : List ℕ) (x : ℕ) : Type 0 where
   before : List ℕ
@@ -77,7 +93,8 @@ module _ (S Q : ℕ) (L : List ℕ) (C : Covers S Q L) (c : ℕ) (d : depth c < 
     tiles : Tiles S Q (past x) (end S) rest
     leaf : (y : ℕ) → Leaf rest y → Leaf L y
 
-  from-head : (a x : ℕ) (B : List ℕ) → a ≡ place x → Leaf L x → Tiles S Q a (end S) B → ((y : ℕ) → Leaf B y → Leaf L y) → Head a B → From x B
+  from-head : (a x : ℕ) (B : List ℕ) → a ≡ place x → Leaf L x → Tiles S Q a (end S) B → ((y : ℕ) → Leaf B y → Leaf L y) →
+      Head a B → From x B
   from-head a x B p m t sub h =
       let mh : Leaf L (h .one) = sub (h .one) (subst (λ (l : List ℕ). Leaf l (h .one)) (sym (h .is)) (inl refl)) in
       let hx : Holds (h .one) (place x) = (omega (arith, h .at), omega (arith, h .at, size-pos (depth (h .one)))) in
@@ -123,31 +140,11 @@ module _ (S Q : ℕ) (L : List ℕ) (C : Covers S Q L) (c : ℕ) (d : depth c < 
   pub side-by-side : Four L c
   side-by-side = after-first (find L (childCode c 0) (four 0 (omega arith)))
 
--- the list that is left
-
-coarsen-parts : (c : ℕ) (A B : List ℕ) → Ascends (A ++ (childCode c 0 ∷ B)) → coarsened c (A ++ (childCode c 0 ∷ B)) ≡ A ++ (c ∷ drop 3 B)
-coarsen-parts c [] B a =
-    ap (λ (b : Bool). cond b (c ∷ drop 3 B) (childCode c 0 ∷ coarsened c B)) (eq-eqb (childCode c 0) (childCode c 0) refl)
-coarsen-parts c (x ∷ A) B a =
-    let M = A ++ (childCode c 0 ∷ B) in
-    let l = a .0 (childCode c 0) (leaf-right A (childCode c 0 ∷ B) (childCode c 0) (inl refl)) in
-    ap (λ (b : Bool). cond b (c ∷ drop 3 M) (x ∷ coarsened c M)) (ne-eqb (childCode c 0) x (λ e. omega arith))
-    ∙ ap (λ (t : List ℕ). x ∷ t) (coarsen-parts c A B (a .1))
-
-index-one : (L : List ℕ) → Ascends L → (i j : ℕ) → i < length L → j < length L → getD L i 0 ≡ getD L j 0 → i ≡ j
-index-one L a i j h k e =
-    ⊎-elim
-    (λ (l : i ≤ j). ⊎-elim (λ (m : j ≤ i). le-antisymm l m) (λ (m : i < j). absurd (omega (arith, asc-at L a i j m k))) (le-or-lt j i))
-    (λ (l : j < i). absurd (omega (arith, asc-at L a j i l h)))
-    (le-or-lt i j)
-
-module _ (S Q : ℕ) (L : List ℕ) (C : Covers S Q L) (c : ℕ) (d : depth c < 26) (four : (q : ℕ) → q < 4 → Leaf L (childCode c q)) where
-  parts : Four L c
-  parts = side-by-side S Q L C c d four
+  -- the list that is left
 
   pub four-at : (i q : ℕ) → i < length L → getD L i 0 ≡ childCode c 0 → q < 4 → (i + q < length L) × (getD L (i + q) 0 ≡ childCode c q)
   four-at i q h e l =
-      let f = parts in
+      let f = side-by-side in
       let A = f .before in
       let R = children c ++ f .after in
       let len : length L ≡ length A + length R = ap length (f .is) ∙ length-append A R in
@@ -157,7 +154,8 @@ module _ (S Q : ℕ) (L : List ℕ) (C : Covers S Q L) (c : ℕ) (d : depth c < 
       let r : length R ≡ 4 + length (f .after) = omega arith in
       let n : i ≡ length A = index-one L (C .ascend) i (length A) h (omega arith) (e ∙ sym z) in (
         omega arith,
-        ap (λ (k : ℕ). getD L (k + q) 0) n ∙ ap (λ (x : List ℕ). getD x (length A + q) 0) (f .is) ∙ getD-append-add A R q 0 ∙ kid-at q l (f .after),
+        ap (λ (k : ℕ). getD L (k + q) 0) n ∙ ap (λ (x : List ℕ). getD x (length A + q) 0) (f .is)
+            ∙ getD-append-add A R q 0 ∙ kid-at q l (f .after),
       )
     where
       kid-at : (q : ℕ) → q < 4 → (B : List ℕ) → getD (children c ++ B) q 0 ≡ childCode c q
@@ -173,11 +171,11 @@ module _ (S Q : ℕ) (L : List ℕ) (C : Covers S Q L) (c : ℕ) (d : depth c < 
       ∙ coarsen-parts c (f .before) (childCode c 1 ∷ childCode c 2 ∷ childCode c 3 ∷ f .after) (subst Ascends (f .is) (C .ascend))
 
   pub coarsen-leaf : Leaf (coarsened c L) c
-  coarsen-leaf = let f = parts in subst (λ (l : List ℕ). Leaf l c) (sym (coarsen-is f)) (leaf-right (f .before) (c ∷ f .after) c (inl refl))
+  coarsen-leaf = let f = side-by-side in subst (λ (l : List ℕ). Leaf l c) (sym (coarsen-is f)) (leaf-right (f .before) (c ∷ f .after) c (inl refl))
 
   pub coarsen-cases : (x : ℕ) → Leaf (coarsened c L) x → (x ≡ c) ⊎ Leaf L x
   coarsen-cases x m =
-      let f = parts in
+      let f = side-by-side in
       let R = children c ++ f .after in
       let old : Leaf (f .before ++ R) x → Leaf L x = λ k. subst (λ (l : List ℕ). Leaf l x) (sym (f .is)) k in
       ⊎-elim
@@ -187,7 +185,7 @@ module _ (S Q : ℕ) (L : List ℕ) (C : Covers S Q L) (c : ℕ) (d : depth c < 
 
   pub coarsen-old : (x : ℕ) → Leaf L x → ((q : ℕ) → q < 4 → x ≡ childCode c q → ⊥) → Leaf (coarsened c L) x
   coarsen-old x m ne =
-      let f = parts in
+      let f = side-by-side in
       subst (λ (l : List ℕ). Leaf l x) (sym (coarsen-is f))
       (⊎-elim
       (λ h. leaf-left (f .before) (c ∷ f .after) x h)
@@ -199,7 +197,7 @@ module _ (S Q : ℕ) (L : List ℕ) (C : Covers S Q L) (c : ℕ) (d : depth c < 
 
   pub coarsen-length : length (coarsened c L) + 3 ≡ length L
   coarsen-length =
-      let f = parts in
+      let f = side-by-side in
       omega (
         arith,
         ap length (coarsen-is f),
@@ -211,7 +209,7 @@ module _ (S Q : ℕ) (L : List ℕ) (C : Covers S Q L) (c : ℕ) (d : depth c < 
 
   pub coarsen-covers : CodeOn S c → Covers S Q (coarsened c L)
   coarsen-covers w =
-      let f = parts in
+      let f = side-by-side in
       let t = subst (λ (l : List ℕ). Tiling S Q l) (f .is) (covers-tiling S Q L C) in
       tiling-covers S Q (coarsened c L)
       (subst (λ (l : List ℕ). Tiling S Q l) (sym (coarsen-is f))
