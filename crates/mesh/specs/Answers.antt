@@ -1,11 +1,13 @@
 -- What the calls on a mesh leave: the reply, and every slot of the lent slice.
 --
 --   Outcome        == a reply and the slots after the call
---   change e       == the number and value of each case of the enum Change
+--   changeReply e  == the number and value of each case of the enum Change
 --   Crossing       == number, level difference and two codes
 --   crossing m     == those of what a side meets
---   across e       == those of each case of the enum Across
---   counted e      == the number and value of each case of the enum Counted
+--   acrossReply e  == those of each case of the enum Facing
+--   Part           == number, start and count of a part of the slice
+--   boundsReply e  == those of each case of the enum Extent
+--   countReply e   == the number and value of each case of the enum Counted
 --
 -- Assumes nothing.
 use mathlib.Core.List.{List}
@@ -17,8 +19,10 @@ use Rattle.soundness.specs.declared.Met.{Met}
 use Rattle.soundness.specs.declared.Met.the-variants.{Larger, Equal, Smaller, Open}
 use Rattle.mesh.specs.declared.Change.{Change}
 use Rattle.mesh.specs.declared.Change.the-variants as change
-use Rattle.mesh.specs.declared.Across.{Across}
-use Rattle.mesh.specs.declared.Across.the-variants as across
+use Rattle.mesh.specs.declared.Facing.{Facing}
+use Rattle.mesh.specs.declared.Facing.the-variants as facing
+use Rattle.mesh.specs.declared.Extent.{Extent}
+use Rattle.mesh.specs.declared.Extent.the-variants as extent
 use Rattle.mesh.specs.declared.Counted.{Counted}
 use Rattle.mesh.specs.declared.Counted.the-variants as counted
 
@@ -58,9 +62,24 @@ crossing Open = crossed (pos 0) 0 0
 abbrev pub notCrossed : ℕ → Crossing
 notCrossed k = record { number = k; level = pos 0; first = 0; second = 0 }
 
-abbrev pub acrossReply : Across → Crossing
-acrossReply (across.Side m) = crossing m
-acrossReply (across.Refused k) = notCrossed k
+abbrev pub acrossReply : Facing → Crossing
+acrossReply (facing.Side m) = crossing m
+acrossReply (facing.Refused k) = notCrossed k
+
+pub record Part : Type 0 where
+  pub number : ℕ
+  pub start : ℕ
+  pub count : ℕ
+
+abbrev pub part : ℕ → ℕ → Part
+part a m = record { number = 0; start = a; count = m }
+
+abbrev pub noBounds : ℕ → Part
+noBounds k = record { number = k; start = 0; count = 0 }
+
+abbrev pub boundsReply : Extent → Part
+boundsReply (extent.Part a m) = part a m
+boundsReply (extent.Refused k) = noBounds k
 
 abbrev pub countReply : Counted → Reply
 countReply (counted.Leaves n) = done n

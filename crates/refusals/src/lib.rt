@@ -18,6 +18,16 @@ pub const ROOT: u64 = 8;
 
 pub const POINT: u64 = 9;
 
+pub const BUFFER: u64 = 10;
+
+pub const MESH: u64 = 11;
+
+pub const NOT_LEAF: u64 = 12;
+
+pub const NOT_FOUR: u64 = 13;
+
+pub const ROOM: u64 = 15;
+
 // The code that was asked for, or the number of the refusal.
 pub enum Answer {
     Code(u64),
