@@ -5,11 +5,13 @@ use mathlib.Core.Path.{_≡_, ap, sym, _∙_, subst}
 use Prim.Native.Nat.{ℕ, _+_, _<_, _≤_}
 use native.Mathlib.Omega.{arith}
 use lib.ListN.{length, getD, take}
+use lib.Seq.{getD-take, length-take-le}
 use Rattle.codes.specs.Codes.{Code}
 use Rattle.codes.specs.Places.{childCode}
 use Rattle.soundness.specs.Leaves.{Leaf, Ascends, leaves, pad}
 use Rattle.soundness.specs.Soundness.{Mesh}
 use Rattle.soundness.proofs.Fresh.{leaves-le}
+use Rattle.soundness.proofs.Leaves.{leaf-at}
 use Rattle.slots.proofs.Slots.{take-pad}
 use Rattle.leaves.specs.Leaves.{Covered, Filled}
 use Rattle.sides.specs.Sides.{InMesh, FourIn}
@@ -34,6 +36,11 @@ module _ (xs : List ℕ) (n : ℕ) (h : Held xs n) where
 
   pub held-filled : Filled xs n
   held-filled = record { form = h .sound .form; count = sym (h .count); ascend = h .sound .mesh .covers .ascend }
+
+  pub held-at : (i : ℕ) → i < n → Leaf (leaves xs) (getD xs i 0)
+  held-at i l =
+      let m = leaf-at (take n xs) i (omega (arith, l, length-take-le n xs held-upto)) in
+      subst (λ (L : List ℕ). Leaf L (getD xs i 0)) held-take (subst (Leaf (take n xs)) (getD-take n xs i 0 l) m)
 
   pub held-leaf : (a : ℕ) → Leaf (leaves xs) a → InMesh (take n xs) (wholeOf xs) a
   held-leaf a m = record { solid = firstSolid xs; mesh = held-mesh; leaf = subst (λ (L : List ℕ). Leaf L a) (sym held-take) m }

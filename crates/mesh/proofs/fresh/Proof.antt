@@ -1,47 +1,55 @@
+-- The refusals are asked in their order; then the faces are written.
+-- Assumes nothing.
+use mathlib.Core.Logic.{inl, inr}
+use mathlib.Core.Path.{refl, ap, _∙_}
+use Prim.Native.Nat.{ℕ}
+use native.Mathlib.Omega.{arith}
 use borrow.Author.Needs.{needs}
+use lib.ListN.{length}
+use Rattle.soundness.specs.Changes.{freshLeaves}
+use Rattle.refusals.specs.Answers.{done}
+use Rattle.soundness.specs.Leaves.{pad}
+use Rattle.mesh.specs.Answers.{outcome}
 use Rattle.mesh.proofs.fresh.Statement.{statement}
 use Rattle.mesh.proofs.fresh.Tie as tie
-use Rattle.mesh.proofs.fresh.Reads as reads
-use Rattle.mesh.proofs.fresh.Lts as lts
-use Rattle.examine.proofs.all_faces.Reads as all-faces-reads
-use Rattle.leaves.proofs.fresh_count.Reads as fresh-count-reads
-use Rattle.leaves.proofs.fresh_into.Reads as fresh-into-reads
 
--- src/lib.rt:73:9
 returns : tie.Need-returns
-returns c = ?
+returns c = inl ((λ h. omega arith), refl)
 
--- src/lib.rt:76:9
 returns-2 : tie.Need-returns-2
-returns-2 c = ?
+returns-2 c = inr (omega arith, inl ((λ h. omega (arith, h .0)), refl))
 
--- src/lib.rt:79:9
 returns-3 : tie.Need-returns-3
-returns-3 c = ?
+returns-3 c = inr (omega arith, inl ((λ h. omega (arith, h .1)), refl))
 
--- src/lib.rt:81:9
 all-faces-requires : tie.Need-all-faces-requires
 all-faces-requires c κs = search needs
 
--- src/lib.rt:82:22
 fresh-count-requires : tie.Need-fresh-count-requires
 fresh-count-requires c κs = search needs
 
--- src/lib.rt:83:9
 returns-4 : tie.Need-returns-4
-returns-4 c = ?
+returns-4 c =
+    let f = c .before .before .all-faces .ensures in
+    inr (omega arith, inr ((omega arith, omega arith), inl ((λ h. omega (arith, h, c .before .fresh-count .ensures, ap (λ (Q : ℕ). length (freshLeaves (c .before .before .before .before .before .before .before .args .solid) Q)) f)), refl)))
 
--- src/lib.rt:85:5
 fresh-into-requires : tie.Need-fresh-into-requires
-fresh-into-requires c κs = search needs
+fresh-into-requires c κs = ((omega arith, omega arith), omega (arith, c .before .before .fresh-count .ensures))
 
--- src/lib.rt:69:1
 same-length : tie.Need-same-length
 same-length c = search needs
 
--- src/lib.rt:69:1
 returns-5 : tie.Need-returns-5
-returns-5 c = ?
+returns-5 c =
+    let a = c .before .before .before .before .before .before .before .before .before .before .before .args in
+    let f = ap (freshLeaves (a .solid)) (c .before .before .before .before .before .before .all-faces .ensures) in
+    inr (
+      omega arith,
+      inr (
+        (omega arith, omega arith),
+        inr (
+          omega (arith, c .before .before .before .before .before .fresh-count .ensures, ap length f),
+          ap (outcome (done 0)) (c .before .before .fresh-into .ensures ∙ ap (pad (length (a .slots .now))) f)))) 
 
 pub fresh-spec : {M : Type 1} → statement M
 fresh-spec =

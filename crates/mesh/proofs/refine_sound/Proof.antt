@@ -1,51 +1,72 @@
+-- A number that is not 0 is handed on; then the leaf is sought, and refined.
+-- Assumes nothing.
+use mathlib.Core.List.{List}
+use mathlib.Core.Logic.{inl, inr}
+use mathlib.Core.Path.{refl, subst}
+use Prim.Native.Nat.{ℕ}
 use borrow.Author.Needs.{needs}
+use Rattle.codes.proofs.Faults.{code-refused, code-on, code-is-formed}
+use Rattle.soundness.specs.Leaves.{Leaf, leaves}
+use Rattle.leaves.specs.Leaves.{LeafAt}
+use Rattle.mesh.proofs.Held.{held-take, held-upto, held-ascend, held-at}
+use Rattle.mesh.specs.Calls.{kept, refineEnd}
 use Rattle.mesh.proofs.refine_sound.Statement.{statement}
 use Rattle.mesh.proofs.refine_sound.Tie as tie
-use Rattle.mesh.proofs.refine_sound.Reads as reads
-use Rattle.mesh.proofs.refine_sound.Lts as lts
-use Rattle.codes.proofs.check.Reads as check-reads
-use Rattle.leaves.proofs.leaf_at.Reads as leaf-at-reads
-use Rattle.mesh.proofs.refine_leaf.Reads as refine-leaf-reads
 
--- src/lib.rt:112:9
 check-requires : tie.Need-check-requires
 check-requires c κs = search needs
 
--- src/lib.rt:114:9
 returns : tie.Need-returns
-returns c = ?
+returns c =
+    let a = c .before .before .before .args in
+    let xs = a .slots .now in
+    code-refused (kept xs) (a .leaf) (refineEnd xs (a .leaf)) (c .before .check .ensures) (c .if1 .taken)
 
--- src/lib.rt:116:11
 leaf-at-requires : tie.Need-leaf-at-requires
-leaf-at-requires c κs = ?
+leaf-at-requires c κs =
+    let s = c .before .before .before .before in
+    let xs = s .args .slots .now in
+    (held-upto xs (s .args .n) (s .pre), held-ascend xs (s .args .n) (s .pre))
 
--- src/lib.rt:117:35
 enum-told : tie.Need-enum-told
 enum-told c = search needs
 
--- src/lib.rt:118:27
 enum-known-at : tie.Need-enum-known-at
 enum-known-at c = search needs
 
--- src/lib.rt:118:34
 refine-leaf-requires : tie.Need-refine-leaf-requires
-refine-leaf-requires c κs = ?
+refine-leaf-requires c κs =
+    let s = c .before .before .before .before .before .before .before .before .before in
+    let a = s .args in
+    let e = c .before .before .before .before .before .before in
+    let at = subst (LeafAt (a .slots .now) (a .n) (a .leaf)) (c .before .before .at .given .1) (c .before .before .before .before .leaf-at .ensures) in
+    (s .pre, at .0, at .1, code-is-formed (a .leaf) (e .before .check .ensures) (e .if1 .left))
 
--- src/lib.rt:108:1
 same-length : tie.Need-same-length
 same-length c = search needs
 
--- src/lib.rt:108:1
 returns-2 : tie.Need-returns-2
-returns-2 c = ?
+returns-2 c =
+    let s = c .before .before .before .before .before .before .before in
+    let a = s .args in
+    let xs = a .slots .now in
+    let e = c .before .before .before .before in
+    let none = subst (λ (L : List ℕ). Leaf L (a .leaf) → ⊥) (held-take xs (a .n) (s .pre)) (subst (LeafAt xs (a .n) (a .leaf)) (c .enum-told .given .1) (c .before .before .leaf-at .ensures)) in
+    code-on (kept xs) (a .leaf) (refineEnd xs (a .leaf)) (code-is-formed (a .leaf) (e .before .check .ensures) (e .if1 .left)) (inl (none, refl))
 
--- src/lib.rt:108:1
 same-length-2 : tie.Need-same-length-2
 same-length-2 c = search needs
 
--- src/lib.rt:108:1
 returns-3 : tie.Need-returns-3
-returns-3 c = ?
+returns-3 c =
+    let s = c .before .before .before .before .before .before .before .before .before .before .before .before in
+    let a = s .args in
+    let xs = a .slots .now in
+    let e = c .before .before .before .before .before .before .before .before .before in
+    let at = subst (LeafAt xs (a .n) (a .leaf)) (c .before .before .before .before .before .at .given .1) (c .before .before .before .before .before .before .before .leaf-at .ensures) in
+    let m = subst (Leaf (leaves xs)) (at .1) (held-at xs (a .n) (s .pre) (c .before .before .before .before .before .at .given .0 .0) (at .0)) in
+    code-on (kept xs) (a .leaf) (refineEnd xs (a .leaf)) (code-is-formed (a .leaf) (e .before .check .ensures) (e .if1 .left))
+    (inr (m, c .before .before .refine-leaf .ensures))
 
 pub refine-sound-spec : {M : Type 1} → statement M
 refine-sound-spec =
