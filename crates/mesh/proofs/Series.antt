@@ -1,10 +1,10 @@
 -- Over any series of calls the mesh stays sound: a refused call writes nothing, an accepted one keeps what was sound so.
 --
---   fresh-sound      == an accepted fresh mesh is sound
---   or-kept          == a refusal keeps sound slots sound, so what comes after it may be assumed
---   refine-keeps     == a refine leaves sound slots, whatever it answers, and whatever set of faces it is asked with
---   coarsen-keeps    == so does a coarsen
---   reach-sound      == what a series of calls leaves is sound
+--   fresh-sound   == an accepted fresh mesh is sound
+--   or-kept       == a refusal keeps sound slots sound, so what was asked for may be assumed
+--   refine-keeps  == a refine leaves sound slots, whatever it answers, and whatever set of faces it is asked with
+--   coarsen-keeps == so does a coarsen
+--   reach-sound   == what a series of calls leaves is sound
 --
 -- Assumes nothing.
 use mathlib.Core.List.{List}
@@ -32,6 +32,9 @@ use Rattle.mesh.specs.Answers.{Outcome, outcome}
 use Rattle.mesh.specs.Calls.{kept, BlockedBy, refineEnd, coarsenEnd, Freshened, Refined, Coarsened}
 use Rattle.mesh.specs.Series.{Reach, start, anew, not-anew, refine, coarsen}
 
+slots-same : {o p : Outcome} → o ≡ p → o .slots ≡ p .slots
+slots-same e = ap (λ (x : Outcome). x .slots) e
+
 -- a call that is done was not refused
 not-kept : (xs : List ℕ) (o : Outcome) (k : ℕ) → 0 < k → o .reply .number ≡ 0 → o ≡ kept xs k → ⊥
 not-kept xs o k h z e = omega (arith, ap (λ (p : Outcome). p .reply .number) e)
@@ -41,41 +44,44 @@ fresh-sound S Q xs o ok f z =
     let short = met (not-kept xs o BUFFER (omega arith) z) f in
     let known = met (not-kept xs o SOLID (omega arith) z) (short .1) in
     let room = met (not-kept xs o ROOM (omega arith) z) (known .1) in
-    subst (Sound S Q) (sym (ap (λ (p : Outcome). p .slots) (room .1)))
+    subst (Sound S Q) (sym (slots-same (room .1)))
     (fresh.fresh-sound S Q (length xs) (known .0) ok (room .0) (short .0))
 
 -- a fresh call that was not accepted
 fresh-kept : (S Q : ℕ) (xs : List ℕ) (o : Outcome) → Freshened S Q xs o → (o .reply .number ≡ 0 → ⊥) → o .slots ≡ xs
-fresh-kept S Q xs o (inl h) n = ap (λ (p : Outcome). p .slots) (h .1)
-fresh-kept S Q xs o (inr (short, inl h)) n = ap (λ (p : Outcome). p .slots) (h .1)
-fresh-kept S Q xs o (inr (short, inr (known, inl h))) n = ap (λ (p : Outcome). p .slots) (h .1)
+fresh-kept S Q xs o (inl h) n = slots-same (h .1)
+fresh-kept S Q xs o (inr (short, inl h)) n = slots-same (h .1)
+fresh-kept S Q xs o (inr (short, inr (known, inl h))) n = slots-same (h .1)
 fresh-kept S Q xs o (inr (short, inr (known, inr (room, e)))) n = absurd (n (ap (λ (p : Outcome). p .reply .number) e))
 
 module _ (S Q : ℕ) (xs : List ℕ) (o : Outcome) (s : Sound S Q xs) where
-  left : (ys : List ℕ) → o .slots ≡ ys → Sound S Q ys → Sound S Q (o .slots)
+  abbrev Still : Type 0
+  Still = Sound S Q (o .slots)
+
+  left : (ys : List ℕ) → o .slots ≡ ys → Sound S Q ys → Still
   left ys e = subst (Sound S Q) (sym e)
 
-  or-kept : {P X : Type 0} {k : ℕ} → ((P → ⊥) × (o ≡ kept xs k)) ⊎ (P × X) → (P → X → Sound S Q (o .slots)) → Sound S Q (o .slots)
-  or-kept (inl h) f = left xs (ap (λ (p : Outcome). p .slots) (h .1)) s
+  or-kept : {P X : Type 0} {k : ℕ} → ((P → ⊥) × (o ≡ kept xs k)) ⊎ (P × X) → (P → X → Still) → Still
+  or-kept (inl h) f = left xs (slots-same (h .1)) s
   or-kept (inr h) f = f (h .0) (h .1)
 
-  code-or-kept : (c : ℕ) (rest : Outcome → Type 0) → codeFaults (kept xs) c rest o → (Code c → rest o → Sound S Q (o .slots)) → Sound S Q (o .slots)
+  code-or-kept : (c : ℕ) (rest : Outcome → Type 0) → codeFaults (kept xs) c rest o → (Code c → rest o → Still) → Still
   code-or-kept c rest h f =
       or-kept h (λ known h₁. or-kept h₁ (λ on h₂. or-kept h₂ (λ deep h₃. or-kept h₃ (λ tail r.
       f (record { known = known; on = on; deep = deep; tail = tail }) r))))
 
-  or-blocked : {X : Type 0} (P : ℕ → Type 0) → BlockedBy xs P o ⊎ ((Some P → ⊥) × X) → ((Some P → ⊥) → X → Sound S Q (o .slots)) → Sound S Q (o .slots)
-  or-blocked P (inl h) f = left xs (ap (λ (p : Outcome). p .slots) (h .is)) s
+  or-blocked : {X : Type 0} (P : ℕ → Type 0) → BlockedBy xs P o ⊎ ((Some P → ⊥) × X) → ((Some P → ⊥) → X → Still) → Still
+  or-blocked P (inl h) f = left xs (slots-same (h .is)) s
   or-blocked P (inr h) f = f (h .0) (h .1)
 
   -- the call's own set of faces
   asked-with : (Q′ : ℕ) → SoundIn Q′ xs → Sound S Q′ xs
   asked-with Q′ = subst (λ (T : ℕ). Sound T Q′ xs) (sound-solid S Q xs s)
 
-  made : (Q′ : ℕ) (ys : List ℕ) → o ≡ outcome (done 0) ys → Sound S Q′ xs → Sound S Q′ ys → Sound S Q (o .slots)
-  made Q′ ys e s′ n = left ys (ap (λ (p : Outcome). p .slots) e) (sound-faces S Q Q′ xs ys s s′ n)
+  made : (Q′ : ℕ) (ys : List ℕ) → o ≡ outcome (done 0) ys → Sound S Q′ xs → Sound S Q′ ys → Still
+  made Q′ ys e s′ n = left ys (slots-same e) (sound-faces S Q Q′ xs ys s s′ n)
 
-  refine-keeps : (Q′ c : ℕ) → Refined Q′ xs c o → Sound S Q (o .slots)
+  refine-keeps : (Q′ c : ℕ) → Refined Q′ xs c o → Still
   refine-keeps Q′ c r =
       or-kept r (λ short r₁.
       or-kept r₁ (λ sound r₂.
@@ -87,7 +93,7 @@ module _ (S Q : ℕ) (xs : List ℕ) (o : Outcome) (s : Sound S Q xs) where
       let s′ = asked-with Q′ sound in
       made Q′ (pad (length xs) (refined c (leaves xs))) e s′ (refining-keeps S Q′ c xs s′ leaf deep free room))))))))
 
-  coarsen-keeps : (Q′ c : ℕ) → Coarsened Q′ xs c o → Sound S Q (o .slots)
+  coarsen-keeps : (Q′ c : ℕ) → Coarsened Q′ xs c o → Still
   coarsen-keeps Q′ c r =
       or-kept r (λ short r₁.
       or-kept r₁ (λ sound r₂.
