@@ -45,6 +45,9 @@ module _ (xs : List ℕ) (n : ℕ) (h : Held xs n) where
   pub held-leaf : (a : ℕ) → Leaf (leaves xs) a → InMesh (take n xs) (wholeOf xs) a
   held-leaf a m = record { solid = firstSolid xs; mesh = held-mesh; leaf = subst (λ (L : List ℕ). Leaf L a) (sym held-take) m }
 
+  pub four-leaves : (i c : ℕ) → i + 4 ≤ n → ((q : ℕ) → q < 4 → getD xs (i + q) 0 ≡ childCode c q) → (q : ℕ) → q < 4 → Leaf (leaves xs) (childCode c q)
+  four-leaves i c l f q k = subst (Leaf (leaves xs)) (f q k) (held-at (i + q) (omega arith))
+
   pub held-four : (c : ℕ) → Code c → ((q : ℕ) → q < 4 → Leaf (leaves xs) (childCode c q)) → FourIn (take n xs) (wholeOf xs) c
   held-four c k f = record {
     solid = firstSolid xs;

@@ -1,3 +1,4 @@
 pub mod Faults
-pub mod Four
 pub mod Held
+pub mod Series
+pub mod Single

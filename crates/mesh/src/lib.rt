@@ -11,10 +11,13 @@ ghost use Rattle.refusals.specs.Answers.{Tells};
 ghost use Rattle.codes.specs.Codes.{depth, Code, codeFaults};
 ghost use Rattle.codes.specs.Places.{childCode};
 ghost use Rattle.soundness.specs.Regions.{allFaces};
-ghost use Rattle.soundness.specs.Soundness.{SoundIn};
+ghost use Rattle.soundness.specs.Leaves.{Leaf, leaves};
+ghost use Rattle.soundness.specs.Soundness.{Sound, SoundIn};
+ghost use Rattle.soundness.specs.Sides.{OneOrTwo};
 ghost use Rattle.examine.specs.Examined.{wholeOf};
 ghost use Rattle.mesh.specs.Answers.{outcome, changeReply, acrossReply, notCrossed, boundsReply, noBounds, countReply};
 ghost use Rattle.mesh.specs.Calls.{kept, Held, Freshened, refineEnd, refineLeafEnd, Refined, coarsenEnd, coarsenLeavesEnd, Coarsened, acrossEnd, AcrossOf, boundsEnd, BoundsOf, RunOf, CountOf};
+ghost use Rattle.mesh.specs.Series.{Reach};
 use examine::Seen;
 use soundness::Met;
 
@@ -252,3 +255,23 @@ pub fn count(slots: &[u64], cell: u64) -> Counted
         Extent::Refused(k) => Counted::Refused(k),
     }
 }
+
+// Theorems. Each function has an empty body and stands for what it ensures, so that the gate asks for it by name.
+
+// For any slots and numbers each call has one answer, the slots after it included.
+pub fn each_call_on_a_mesh_has_one_answer()
+    ensures { λ _. ⌜ ((S Q : ℕ) (xs : List ℕ) → Single (Freshened S Q xs)) ⌝ }
+    ensures { λ _. ⌜ ((Q : ℕ) (xs : List ℕ) (c : ℕ) → Single (Refined Q xs c)) ⌝ }
+    ensures { λ _. ⌜ ((Q : ℕ) (xs : List ℕ) (c : ℕ) → Single (Coarsened Q xs c)) ⌝ }
+    ensures { λ _. ⌜ ((Q : ℕ) (xs : List ℕ) (c s : ℕ) → Single (AcrossOf Q xs c s)) ⌝ }
+    ensures { λ _. ⌜ ((Q : ℕ) (xs : List ℕ) (c : ℕ) → Single (BoundsOf Q xs c)) ⌝ }
+    ensures { λ _. ⌜ ((Q : ℕ) (xs : List ℕ) (c : ℕ) → Single (RunOf Q xs c)) ⌝ }
+    ensures { λ _. ⌜ ((Q : ℕ) (xs : List ℕ) (c : ℕ) → Single (CountOf Q xs c)) ⌝ }
+{}
+
+// Any series of calls, refused ones included, leaves a sound mesh of the solid and the faces it was made for; and on the whole
+// solid each side of each leaf then meets one leaf, equal or larger, or exactly two smaller.
+pub fn any_series_of_calls_leaves_a_sound_mesh()
+    ensures { λ _. ⌜ ((S Q : ℕ) (xs : List ℕ) → Reach S Q xs → Sound S Q xs) ⌝ }
+    ensures { λ _. ⌜ ((S : ℕ) (xs : List ℕ) → Reach S (allFaces S) xs → (a s : ℕ) → Leaf (leaves xs) a → s < 3 → OneOrTwo (leaves xs) a s) ⌝ }
+{}

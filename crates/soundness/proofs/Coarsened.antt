@@ -171,7 +171,9 @@ module _ (S Q : ℕ) (L : List ℕ) (C : Covers S Q L) (c : ℕ) (d : depth c < 
       ∙ coarsen-parts c (f .before) (childCode c 1 ∷ childCode c 2 ∷ childCode c 3 ∷ f .after) (subst Ascends (f .is) (C .ascend))
 
   pub coarsen-leaf : Leaf (coarsened c L) c
-  coarsen-leaf = let f = side-by-side in subst (λ (l : List ℕ). Leaf l c) (sym (coarsen-is f)) (leaf-right (f .before) (c ∷ f .after) c (inl refl))
+  coarsen-leaf =
+      let f = side-by-side in
+      subst (λ (l : List ℕ). Leaf l c) (sym (coarsen-is f)) (leaf-right (f .before) (c ∷ f .after) c (inl refl))
 
   pub coarsen-cases : (x : ℕ) → Leaf (coarsened c L) x → (x ≡ c) ⊎ Leaf L x
   coarsen-cases x m =

@@ -11,8 +11,7 @@ use Rattle.refusals.specs.Answers.{done}
 use Rattle.soundness.specs.Sides.{BlocksCoarsen, Some, LeastOf}
 use Rattle.sides.specs.Sides.{FourIn}
 use Rattle.mesh.specs.Answers.{outcome}
-use Rattle.mesh.proofs.Four.{four-leaves}
-use Rattle.mesh.proofs.Held.{held-take, held-upto, held-filled, held-four}
+use Rattle.mesh.proofs.Held.{held-take, held-upto, held-filled, held-four, four-leaves}
 use Rattle.mesh.proofs.coarsen_leaves.Statement.{statement}
 use Rattle.mesh.proofs.coarsen_leaves.Tie as tie
 

@@ -10,8 +10,7 @@ use Rattle.codes.proofs.Faults.{code-refused, code-on, code-is-formed}
 use Rattle.leaves.specs.Leaves.{FourAt}
 use Rattle.leaves.specs.declared.Found.the-variants.{At}
 use Rattle.mesh.specs.Calls.{kept, coarsenEnd}
-use Rattle.mesh.proofs.Four.{four-leaves}
-use Rattle.mesh.proofs.Held.{held-upto, held-covered, held-four}
+use Rattle.mesh.proofs.Held.{held-upto, held-covered, held-four, four-leaves}
 use Rattle.mesh.proofs.coarsen_sound.Statement.{statement}
 use Rattle.mesh.proofs.coarsen_sound.Tie as tie
 

@@ -49,7 +49,10 @@ returns-5 c =
         (omega arith, omega arith),
         inr (
           omega (arith, c .before .before .before .before .before .fresh-count .ensures, ap length f),
-          ap (outcome (done 0)) (c .before .before .fresh-into .ensures ∙ ap (pad (length (a .slots .now))) f)))) 
+          ap (outcome (done 0)) (c .before .before .fresh-into .ensures ∙ ap (pad (length (a .slots .now))) f),
+        ),
+      ),
+    )
 
 pub fresh-spec : {M : Type 1} → statement M
 fresh-spec =

@@ -71,13 +71,13 @@ split-leaf-requires c κs =
     let a = s .args in
     let xs = a .slots .now in
     let h = s .pre .0 in
-    let e = s .pre .2 in
-    (
+    let e = s .pre .2 in (
       held-filled xs (a .n) h,
       omega (arith, held-upto xs (a .n) h),
       s .pre .1,
       subst Code (sym e) (s .pre .3),
-      omega (arith, ap depth e, c .before .before .before .before .before .before .before .depth-of .ensures))
+      omega (arith, ap depth e, c .before .before .before .before .before .before .before .depth-of .ensures),
+    )
 
 same-length-3 : tie.Need-same-length-3
 same-length-3 c = search needs
@@ -93,7 +93,8 @@ returns-4 c =
     let done-is = c .before .before .split-leaf .ensures ∙ ap (λ (x : ℕ). pad (length xs) (refined x (leaves xs))) (s .pre .2) in
     inr (
       omega (arith, e .before .before .before .before .before .depth-of .ensures),
-      inr (none, inr (omega (arith, h .count, held-upto xs (a .n) h), ap (outcome (done 0)) done-is)))
+      inr (none, inr (omega (arith, h .count, held-upto xs (a .n) h), ap (outcome (done 0)) done-is)),
+    )
 
 pub refine-leaf-spec : {M : Type 1} → statement M
 refine-leaf-spec =
