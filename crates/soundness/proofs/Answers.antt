@@ -1,9 +1,9 @@
 -- What a side of a leaf meets has one answer, and the leaves that stand in the way of a change are read off from it.
 --
---   met-single                      == a side meets one answer
---   larger-blocks, met-larger       == a leaf blocks a refine where a side meets it as larger, and only there
---   smaller-blocks, met-smaller     == a leaf blocks a coarsen where a child's side meets it as one of two smaller, and only there
---   least-single                    == there is one least
+--   met-single                  == a side meets one answer
+--   larger-blocks, met-larger   == a leaf blocks a refine where a side meets it as larger, and only there
+--   smaller-blocks, met-smaller == the first of two smaller leaves blocks a coarsen, and what blocks it is one of two such
+--   least-single                == there is one least
 --
 -- Assumes nothing.
 use mathlib.Core.List.{List}
@@ -79,6 +79,8 @@ module _ (L : List ℕ) (a s : ℕ) where
 pub larger-blocks : (L : List ℕ) (a s b : ℕ) → s < 3 → MetIs L a s (Larger b) → BlocksRefine L a b
 larger-blocks L a s b l p = record { leaf = p .0 .leaf; side = s; low = l; meets = p .0 .meets; larger = omega (arith, p .1) }
 
-pub smaller-blocks : (L : List ℕ) (c q s b b′ : ℕ) → depth c < 26 → q < 4 → s < 3 → MetIs L (childCode c q) s (Smaller b b′) → BlocksCoarsen L c b
+pub smaller-blocks : (L : List ℕ) (c q s b b′ : ℕ) → depth c < 26 → q < 4 → s < 3 → MetIs L (childCode c q) s (Smaller b b′) →
+    BlocksCoarsen L c b
 smaller-blocks L c q s b b′ d h l p =
-    record { leaf = p .leaf; digit = q; four = h; side = s; low = l; meets = p .meets; smaller = omega (arith, p .deeper, depth-child c q d) }
+    let k = depth-child c q d in
+    record { leaf = p .leaf; digit = q; four = h; side = s; low = l; meets = p .meets; smaller = omega (arith, p .deeper) }

@@ -31,7 +31,8 @@ leaf-some : (L : List ℕ) (x : ℕ) → Leaf L x → 0 < length L
 leaf-some [] x m = absurd m
 leaf-some (y ∷ L) x m = omega arith
 
-module _ (S Q c : ℕ) (L : List ℕ) (M : Mesh S Q L) (w : CodeOn S c) (d : depth c < 26) (four : (q : ℕ) → q < 4 → Leaf L (childCode c q)) where
+module _ (S Q c : ℕ) (L : List ℕ) (M : Mesh S Q L) (w : CodeOn S c) (d : depth c < 26)
+    (four : (q : ℕ) → q < 4 → Leaf L (childCode c q)) where
   covers-c : Covers S Q (coarsened c L)
   covers-c = coarsen-covers S Q L (M .covers) c d four w
 
@@ -51,7 +52,9 @@ module _ (S Q c : ℕ) (L : List ℕ) (M : Mesh S Q L) (w : CodeOn S c) (d : dep
   module _ (step : ℕ → ℕ → ℕ) (N : StepLaws S step) where
     -- a child of c meets what c meets, and is met by what meets c
     coarsen-one-way : (Some (BlocksCoarsen L c) → ⊥) → OneWay (coarsened c L)
-    coarsen-one-way free x s y mx my l m = go (coarsen-cases S Q L (M .covers) c d four x mx) (coarsen-cases S Q L (M .covers) c d four y my)
+    coarsen-one-way free x s y mx my l m =
+        let cases = coarsen-cases S Q L (M .covers) c d four in
+        go (cases x mx) (cases y my)
       where
         from-c : Leaf L y → Meets c s y → depth c ≤ depth y + 1
         from-c oy n =
@@ -68,7 +71,9 @@ module _ (S Q c : ℕ) (L : List ℕ) (M : Mesh S Q L) (w : CodeOn S c) (d : dep
             ⊎-elim
             (λ (h : depth x ≤ depth c + 1). h)
             (λ (h : depth c + 1 < depth x).
-            absurd (free (record { one = x; is = record { leaf = ox; digit = q; four = k .four; side = backNo s; low = back< s; meets = b; smaller = h } })))
+            let blocks : BlocksCoarsen L c x =
+            record { leaf = ox; digit = q; four = k .four; side = backNo s; low = back< s; meets = b; smaller = h } in
+            absurd (free (record { one = x; is = blocks })))
             (le-or-lt (depth x) (depth c + 1))
 
         go : (x ≡ c) ⊎ Leaf L x → (y ≡ c) ⊎ Leaf L y → depth x ≤ depth y + 1
@@ -84,9 +89,11 @@ module _ (S Q c : ℕ) (L : List ℕ) (M : Mesh S Q L) (w : CodeOn S c) (d : dep
       level = both-ways S Q step N (coarsened c L) covers-c (coarsen-one-way free);
     }
 
-pub coarsen-sound : (S Q : ℕ) (step : ℕ → ℕ → ℕ) → StepLaws S step → (c : ℕ) (xs : List ℕ) → Sound S Q xs → CodeOn S c → depth c < 26 →
-    ((q : ℕ) → q < 4 → Leaf (leaves xs) (childCode c q)) → (Some (BlocksCoarsen (leaves xs) c) → ⊥) → Sound S Q (pad (length xs) (coarsened c (leaves xs)))
+pub coarsen-sound : (S Q : ℕ) (step : ℕ → ℕ → ℕ) → StepLaws S step → (c : ℕ) (xs : List ℕ) → Sound S Q xs →
+    CodeOn S c → depth c < 26 → ((q : ℕ) → q < 4 → Leaf (leaves xs) (childCode c q)) → (Some (BlocksCoarsen (leaves xs) c) → ⊥) →
+    Sound S Q (pad (length xs) (coarsened c (leaves xs)))
 coarsen-sound S Q step N c xs s w d four free =
     let L = leaves xs in
     let n = coarsen-length S Q L (s .mesh .covers) c d four in
-    pad-sound S Q (length xs) (coarsened c L) (s .region) (s .short) (omega (arith, leaves-le xs)) (coarsen-mesh S Q c L (s .mesh) w d four step N free)
+    let room : length (coarsened c L) ≤ length xs = omega (arith, leaves-le xs) in
+    pad-sound S Q (length xs) (coarsened c L) (s .region) (s .short) room (coarsen-mesh S Q c L (s .mesh) w d four step N free)

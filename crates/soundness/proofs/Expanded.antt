@@ -5,6 +5,7 @@
 --   KidOf A L x               == x is a child of one of the leaves L that is replaced
 --   expand-cases              == each new leaf is the one or the other
 --   expand-old, expand-kid    == each of these is a new leaf
+--   Room L A                  == the leaves that are replaced have children
 --   expand-covers             == the new leaves cover what the old ones did
 --   refine-covers             == so do they where one leaf is replaced
 --
@@ -88,7 +89,10 @@ expand-kid A (y ∷ L) x q (inr m) e l =
 
 -- tilings
 
-expand-tiles : (S Q : ℕ) (A : ℕ → Bool) (a b : ℕ) (L : List ℕ) → ((x : ℕ) → Leaf L x → A x ≡ true → depth x < 26) → Tiles S Q a b L → Tiles S Q a b (expanded A L)
+abbrev pub Room : List ℕ → (ℕ → Bool) → Type 0
+Room L A = (x : ℕ) → Leaf L x → A x ≡ true → depth x < 26
+
+expand-tiles : (S Q : ℕ) (A : ℕ → Bool) (a b : ℕ) (L : List ℕ) → Room L A → Tiles S Q a b L → Tiles S Q a b (expanded A L)
 expand-tiles S Q A a b [] f t = t
 expand-tiles S Q A a b (x ∷ L) f t = head (A x) refl (expand-tiles S Q A (past x) b L (λ y m e. f y (inr m) e) (t .1))
   where
@@ -98,13 +102,13 @@ expand-tiles S Q A a b (x ∷ L) f t = head (A x) refl (expand-tiles S Q A (past
         tiles-append S Q a (past x) b (children x) (expanded A L) (tiles-kids S Q x a (past x) (f x (inl refl) e) one) u
     head false e u = (t .0, u)
 
-pub expand-covers : (S Q : ℕ) (A : ℕ → Bool) (L : List ℕ) → ((x : ℕ) → Leaf L x → A x ≡ true → depth x < 26) → Covers S Q L → Covers S Q (expanded A L)
+pub expand-covers : (S Q : ℕ) (A : ℕ → Bool) (L : List ℕ) → Room L A → Covers S Q L → Covers S Q (expanded A L)
 expand-covers S Q A L room C = tiling-covers S Q (expanded A L) (expand-tiles S Q A (base S) (end S) L room (covers-tiling S Q L C))
 
 -- one leaf replaced
 
-pub refine-room : (a x : ℕ) → depth a < 26 → eqb a x ≡ true → depth x < 26
-refine-room a x d e = subst (λ (y : ℕ). depth y < 26) (eqb-true a x e) d
+pub refine-room : (a : ℕ) (L : List ℕ) → depth a < 26 → Room L (eqb a)
+refine-room a L d x m e = subst (λ (y : ℕ). depth y < 26) (eqb-true a x e) d
 
 pub refine-covers : (S Q a : ℕ) (L : List ℕ) → depth a < 26 → Covers S Q L → Covers S Q (refined a L)
-refine-covers S Q a L d C = expand-covers S Q (eqb a) L (λ x m e. refine-room a x d e) C
+refine-covers S Q a L d C = expand-covers S Q (eqb a) L (refine-room a L d) C

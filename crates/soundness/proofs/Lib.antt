@@ -16,3 +16,4 @@ pub mod Coarsen
 pub mod Prefixes
 pub mod Examine
 pub mod Answers
+pub mod OnCodes

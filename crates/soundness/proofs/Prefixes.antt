@@ -31,8 +31,9 @@ module _ (S Q : ℕ) (xs : List ℕ) where
   -- what stands in a longer prefix after a shorter one
   longer : (i m : ℕ) → i < m → m ≤ length xs → take m xs ≡ take i xs ++ (getD (take m xs) i 0 ∷ drop (suc i) (take m xs))
   longer i m h k =
-      let l : length (take m xs) ≡ m = length-take-le m xs k in
-      split-at (take m xs) i 0 (omega arith) ∙ ap (λ (t : List ℕ). t ++ (getD (take m xs) i 0 ∷ drop (suc i) (take m xs))) (take-take i m xs (omega arith))
+      let M = take m xs in
+      let l : length M ≡ m = length-take-le m xs k in
+      split-at M i 0 (omega arith) ∙ ap (λ (t : List ℕ). t ++ (getD M i 0 ∷ drop (suc i) M)) (take-take i m xs (omega arith))
 
   no-later : (n m : ℕ) → m ≤ length xs → Tiling S Q (take n xs) → Tiling S Q (take m xs) → n < m → ⊥
   no-later n m h t u l =

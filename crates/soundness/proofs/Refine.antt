@@ -1,10 +1,10 @@
 -- Refining keeps a mesh where no larger leaf is over a side of the leaf, and would break it where one is.
 --
---   Closed L A        == with each leaf, the set A has the larger leaves over its sides
---   expand-level      == the leaves of a closed set may be replaced by their children at once
---   refine-mesh       == an unblocked refine gives a mesh
---   refine-sound      == and sound slots, where there is room for it
---   refine-blocked    == a blocked one would break the levels
+--   Closed L A     == with each leaf, the set A has the larger leaves over its sides
+--   expand-level   == the leaves of a closed set may be replaced by their children at once
+--   refine-mesh    == an unblocked refine gives a mesh
+--   refine-sound   == and sound slots, where there is room for it
+--   refine-blocked == a blocked one would break the levels
 --
 -- Assumes nothing.
 use mathlib.Core.Bool.{Bool, true, true≢false}
@@ -29,7 +29,7 @@ use Rattle.soundness.proofs.Slots.{refine-length}
 use Rattle.soundness.proofs.Fresh.{pad-sound}
 use Rattle.soundness.proofs.Meets.{meets-wider, meets-to-wider, meets-child}
 use Rattle.soundness.proofs.Level.{OneWay, both-ways}
-use Rattle.soundness.proofs.Expanded.{OldOf, KidOf, expand-cases, expand-old, expand-kid, expand-covers, refine-room, refine-covers}
+use Rattle.soundness.proofs.Expanded.{OldOf, KidOf, expand-cases, expand-old, expand-kid, Room, expand-covers, refine-room, refine-covers}
 
 abbrev pub Closed : List ℕ → (ℕ → Bool) → Type 0
 Closed L A = (x s y : ℕ) → Leaf L x → A x ≡ true → Leaf L y → s < 3 → Meets x s y → depth y < depth x → A y ≡ true
@@ -38,7 +38,7 @@ apart-in : (a b x : ℕ) → In x b → Apart a b → Apart a x
 apart-in a b x i (inl h) = inl (omega (arith, i .0))
 apart-in a b x i (inr h) = inr (omega (arith, i .1))
 
-module _ (S Q : ℕ) (L : List ℕ) (C : Covers S Q L) (E : Level L) (A : ℕ → Bool) (room : (x : ℕ) → Leaf L x → A x ≡ true → depth x < 26) where
+module _ (S Q : ℕ) (L : List ℕ) (C : Covers S Q L) (E : Level L) (A : ℕ → Bool) (room : Room L A) where
   kid-in : (z : ℕ) (k : KidOf A L z) → In z (k .leaf) × (depth z ≡ depth (k .leaf) + 1)
   kid-in z k =
       let p = k .leaf in
@@ -77,31 +77,31 @@ module _ (S Q : ℕ) (L : List ℕ) (C : Covers S Q L) (E : Level L) (A : ℕ �
           (eq-or-not p p′)
 
 module _ (S Q : ℕ) (step : ℕ → ℕ → ℕ) (N : StepLaws S step) (L : List ℕ) where
-  pub expand-level : Covers S Q L → Level L → (A : ℕ → Bool) → ((x : ℕ) → Leaf L x → A x ≡ true → depth x < 26) → Closed L A → Level (expanded A L)
-  expand-level C E A room closed = both-ways S Q step N (expanded A L) (expand-covers S Q A L room C) (expand-one-way S Q L C E A room closed)
+  pub expand-level : Covers S Q L → Level L → (A : ℕ → Bool) → Room L A → Closed L A → Level (expanded A L)
+  expand-level C E A room closed =
+      both-ways S Q step N (expanded A L) (expand-covers S Q A L room C) (expand-one-way S Q L C E A room closed)
 
   pub refine-mesh : (a : ℕ) → Mesh S Q L → Leaf L a → depth a < 26 → (Some (BlocksRefine L a) → ⊥) → Mesh S Q (refined a L)
   refine-mesh a m k d free =
       record {
         some = omega (arith, refine-length L a (m .covers .ascend) k);
         covers = refine-covers S Q a L d (m .covers);
-        level = expand-level (m .covers) (m .level) (eqb a) (λ x mx e. refine-room a x d e) (λ x s y mx e my l n h. absurd (blocks x s y e my l n h));
+        level = expand-level (m .covers) (m .level) (eqb a) (refine-room a L d) (λ x s y mx e my l n h. absurd (blocks x s y e my l n h));
       }
     where
       blocks : (x s y : ℕ) → eqb a x ≡ true → Leaf L y → s < 3 → Meets x s y → depth y < depth x → ⊥
       blocks x s y e my l n h =
           let f : x ≡ a = sym (eqb-true a x e) in
-          free (record {
-            one = y;
-            is = record { leaf = my; side = s; low = l; meets = subst (λ (z : ℕ). Meets z s y) f n; larger = subst (λ (z : ℕ). depth y < depth z) f h };
-          })
+          let n′ : Meets a s y = subst (λ (z : ℕ). Meets z s y) f n in
+          free (record { one = y; is = record { leaf = my; side = s; low = l; meets = n′; larger = omega (arith, ap depth f) } })
 
-module _ (S Q : ℕ) (step : ℕ → ℕ → ℕ) (N : StepLaws S step) where
-  pub refine-sound : (a : ℕ) (xs : List ℕ) → Sound S Q xs → Leaf (leaves xs) a → depth a < 26 → (Some (BlocksRefine (leaves xs) a) → ⊥) → length (leaves xs) + 3 ≤ length xs →
-      Sound S Q (pad (length xs) (refined a (leaves xs)))
-  refine-sound a xs s k d free room =
-      let L = leaves xs in
-      pad-sound S Q (length xs) (refined a L) (s .region) (s .short) (omega (arith, refine-length L a (s .mesh .covers .ascend) k)) (refine-mesh S Q step N L a (s .mesh) k d free)
+pub refine-sound : (S Q : ℕ) (step : ℕ → ℕ → ℕ) → StepLaws S step → (a : ℕ) (xs : List ℕ) → Sound S Q xs →
+    Leaf (leaves xs) a → depth a < 26 → (Some (BlocksRefine (leaves xs) a) → ⊥) → length (leaves xs) + 3 ≤ length xs →
+    Sound S Q (pad (length xs) (refined a (leaves xs)))
+refine-sound S Q step N a xs s k d free room =
+    let L = leaves xs in
+    let n = refine-length L a (s .mesh .covers .ascend) k in
+    pad-sound S Q (length xs) (refined a L) (s .region) (s .short) (omega arith) (refine-mesh S Q step N L a (s .mesh) k d free)
 
 pub refine-blocked : (a : ℕ) (L : List ℕ) → Leaf L a → depth a < 26 → Some (BlocksRefine L a) → Level (refined a L) → ⊥
 refine-blocked a L ma d w f =

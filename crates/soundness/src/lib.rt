@@ -34,15 +34,19 @@ pub fn a_fresh_mesh_is_sound()
 // Refining a leaf of depth below 26 keeps a mesh sound, where there is room for three more leaves and no side of the leaf
 // meets a larger one. Where one does, leaves that share a stretch of a side would be two levels apart.
 pub fn refining_keeps_a_mesh_sound()
-    ensures { λ _. ⌜ ((S Q a : ℕ) (xs : List ℕ) → Sound S Q xs → Leaf (leaves xs) a → depth a < 26 → (Some (BlocksRefine (leaves xs) a) → ⊥) → length (leaves xs) + 3 ≤ length xs → Sound S Q (pad (length xs) (refined a (leaves xs)))) ⌝ }
+    ensures { λ _. ⌜ ((S Q a : ℕ) (xs : List ℕ) → Sound S Q xs → Leaf (leaves xs) a → depth a < 26 →
+        (Some (BlocksRefine (leaves xs) a) → ⊥) → length (leaves xs) + 3 ≤ length xs → Sound S Q (pad (length xs) (refined a (leaves xs)))) ⌝ }
     ensures { λ _. ⌜ ((a : ℕ) (L : List ℕ) → Leaf L a → depth a < 26 → Some (BlocksRefine L a) → Level (refined a L) → ⊥) ⌝ }
 {}
 
 // Coarsening a cell whose four children are leaves keeps a mesh sound, where no side of a child meets two smaller leaves. Where
 // one does, leaves that share a stretch of a side would be two levels apart.
 pub fn coarsening_keeps_a_mesh_sound()
-    ensures { λ _. ⌜ ((S Q c : ℕ) (xs : List ℕ) → Sound S Q xs → CodeOn S c → depth c < 26 → ((q : ℕ) → q < 4 → Leaf (leaves xs) (childCode c q)) → (Some (BlocksCoarsen (leaves xs) c) → ⊥) → Sound S Q (pad (length xs) (coarsened c (leaves xs)))) ⌝ }
-    ensures { λ _. ⌜ ((S Q c : ℕ) (L : List ℕ) → Mesh S Q L → CodeOn S c → depth c < 26 → ((q : ℕ) → q < 4 → Leaf L (childCode c q)) → Some (BlocksCoarsen L c) → Level (coarsened c L) → ⊥) ⌝ }
+    ensures { λ _. ⌜ ((S Q c : ℕ) (xs : List ℕ) → Sound S Q xs → CodeOn S c → depth c < 26 →
+        ((q : ℕ) → q < 4 → Leaf (leaves xs) (childCode c q)) → (Some (BlocksCoarsen (leaves xs) c) → ⊥) →
+        Sound S Q (pad (length xs) (coarsened c (leaves xs)))) ⌝ }
+    ensures { λ _. ⌜ ((S Q c : ℕ) (L : List ℕ) → Mesh S Q L → CodeOn S c → depth c < 26 →
+        ((q : ℕ) → q < 4 → Leaf L (childCode c q)) → Some (BlocksCoarsen L c) → Level (coarsened c L) → ⊥) ⌝ }
 {}
 
 // On a mesh of the whole solid each side of each leaf meets one leaf, equal or larger, or exactly two smaller; and what a side

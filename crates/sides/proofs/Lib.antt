@@ -1,0 +1,6 @@
+pub mod Faces
+pub mod Across
+pub mod Least
+pub mod Candidates
+pub mod Rows
+pub mod Blocked
