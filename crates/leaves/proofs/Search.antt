@@ -2,7 +2,7 @@
 -- Assumes nothing.
 use mathlib.Core.List.{List}
 use mathlib.Core.Logic.{⊎-elim}
-use mathlib.Core.Path.{_≡_, refl, sym, _∙_, ap}
+use mathlib.Core.Path.{_≡_, sym, _∙_, ap}
 use Prim.Native.Nat.{ℕ, zero, suc, _+_, _-_, _*_, _%_, _^_, _<_, _≤_}
 use native.Mathlib.Omega.{arith}
 use lib.ListN.{length, getD, take, drop, length-drop, take-append-drop}
@@ -13,7 +13,7 @@ use Rattle.geometry.proofs.Paths.{no-digit}
 use Rattle.solids.specs.Solids.{solidOf}
 use Rattle.solids.proofs.Numbers.{faces-few}
 use Rattle.codes.specs.Codes.{solid, depth, size, Code, cellOf, codeOf}
-use Rattle.codes.specs.Places.{place, past, childCode}
+use Rattle.codes.specs.Places.{past, childCode}
 use Rattle.codes.proofs.Sizes.{size-pos, place-two}
 use Rattle.codes.proofs.Places.{code-on-solid, child-place}
 use Rattle.soundness.specs.Leaves.{Leaf, Ascends}
