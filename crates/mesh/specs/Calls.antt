@@ -7,29 +7,24 @@
 --   AcrossOf Q xs c s a   == a is the answer for what lies across side s of the leaf c
 --   RunOf Q xs c ys       == ys are the slots of the run under the cell c
 --   CountOf Q xs c r      == r is the reply for the number of leaves in that run
---   wholeOf xs            == all faces of the solid of the first slot
 --
 -- Assumes nothing.
 use mathlib.Core.List.{List, []}
 use mathlib.Core.Logic.{_⊎_}
 use mathlib.Core.Path.{_≡_}
 use Prim.Native.Nat.{ℕ, _+_, _<_, _≤_}
-use lib.ListN.{length, getD}
+use lib.ListN.{length}
 use Rattle.solids.specs.Solids.{Known}
 use Rattle.refusals.specs.Refusals.{SOLID, DIRECTION, DEEP, BUFFER, MESH, NOT-LEAF, NOT-FOUR, ROOM, need}
 use Rattle.refusals.specs.Answers.{Reply, done, refused}
-use Rattle.codes.specs.Codes.{solid, depth, codeFaults}
+use Rattle.codes.specs.Codes.{depth, codeFaults}
 use Rattle.codes.specs.Places.{childCode}
-use Rattle.soundness.specs.Regions.{allFaces}
 use Rattle.soundness.specs.Leaves.{Leaf, leaves, pad}
 use Rattle.soundness.specs.Soundness.{SoundIn}
 use Rattle.soundness.specs.Changes.{freshLeaves, refined, coarsened, under}
 use Rattle.soundness.specs.Sides.{MetIs, BlocksRefine, BlocksCoarsen, Some, LeastOf}
 use Rattle.soundness.specs.declared.Met.{Met}
 use Rattle.mesh.specs.Answers.{Outcome, outcome, blocked, Crossing, crossing, notCrossed}
-
-abbrev pub wholeOf : List ℕ → ℕ
-wholeOf xs = allFaces (solid (getD xs 0 0))
 
 -- "A refusal [..] writes nothing."
 abbrev pub kept : List ℕ → ℕ → Outcome

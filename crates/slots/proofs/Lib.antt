@@ -1,2 +1,4 @@
 pub mod Search
 pub mod Zeros
+pub mod Moves
+pub mod Slots

@@ -2,13 +2,13 @@
 --
 --   ZerosFrom xs n          == from n on every slot is zero
 --   clearedFrom xs n        == xs with zeros from n on
---   opened xs at n          == the slots from `at` up to n moved up three
---   splitAt xs at n a b c d == the slot `at` becomes four
---   closed xs at k          == three slots from `at` on go; those after them move down three, as far as k
---   joinAt xs at n code     == four slots from `at` on become one
+--   opened xs at n          == the slots from `at` up to n, moved up three
+--   splitAt xs at n a b c d == the slot `at` becomes these four
+--   closed xs at n          == the slots from at + 3 up to n + 3, moved down three
+--   joinAt xs at n code     == the four slots from `at` on become this one
 --
 -- Assumes nothing.
-use mathlib.Core.List.{List, [], _∷_, _++_}
+use mathlib.Core.List.{List, _∷_, _++_}
 use mathlib.Core.Path.{_≡_}
 use Prim.Native.Nat.{ℕ, _+_, _-_}
 use lib.ListN.{length, take, drop, replicate}
@@ -28,9 +28,9 @@ opened xs at n = take (at + 3) xs ++ (take (n - at) (drop at xs) ++ drop (n + 3)
 abbrev pub splitAt : List ℕ → ℕ → ℕ → ℕ → ℕ → ℕ → ℕ → List ℕ
 splitAt xs at n a b c d = take at xs ++ (a ∷ b ∷ c ∷ d ∷ (take (n - (at + 1)) (drop (at + 1) xs) ++ drop (n + 3) xs))
 
--- "later leaves move down three": what stood before `at` and from k on stays
+-- "later leaves move down three": what stood before `at` and from n on stays
 abbrev pub closed : List ℕ → ℕ → ℕ → List ℕ
-closed xs at k = take at xs ++ (take (k - at) (drop (at + 3) xs) ++ drop k xs)
+closed xs at n = take at xs ++ (take (n - at) (drop (at + 3) xs) ++ drop n xs)
 
 -- "its four children become that one leaf, later leaves move down three, the freed slots become zero"
 abbrev pub joinAt : List ℕ → ℕ → ℕ → ℕ → List ℕ

@@ -155,12 +155,19 @@ holds-place c = (omega arith, omega (arith, size-pos (depth c)))
 pub in-holds : (x c g : ℕ) → In x c → Holds x g → Holds c g
 in-holds x c g i h = (omega arith, omega arith)
 
+pub in-place : (x c : ℕ) → In x c → Holds c (place x)
+in-place x c i = in-holds x c (place x) i (holds-place x)
+
 pub in-trans : (x y z : ℕ) → In x y → In y z → In x z
 in-trans x y z h k = (omega arith, omega arith)
 
 pub apart-holds : (a b g : ℕ) → Apart a b → Holds a g → Holds b g → ⊥
 apart-holds a b g (inl l) h k = omega arith
 apart-holds a b g (inr l) h k = omega arith
+
+-- two cells around one
+pub both-around : {S S' : ℕ} (x a b : ℕ) → CodeOn S a → CodeOn S' b → depth b ≤ depth a → In x a → In x b → In a b
+both-around x a b ca cb d i j = common a b (place x) ca cb d (in-place x a i) (in-place x b j)
 
 pub in-depth : {S S' : ℕ} (x c : ℕ) → CodeOn S x → CodeOn S' c → In x c → depth c ≤ depth x
 in-depth x c wx wc i =

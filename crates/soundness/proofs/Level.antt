@@ -3,7 +3,8 @@
 --
 --   OneWay L           == of leaves that meet, the one is at most one level deeper than the other
 --   both-ways          == as meeting is mutual, that is enough
---   deeper-than        == a leaf that has a place in a cell with leaves strictly inside it is one of these
+--   inner-held         == each place of a cell with leaves strictly inside it is in a leaf
+--   deeper-than        == which is one of these
 --   parent-inner       == the parent of a leaf has leaves strictly inside it
 --   Inners S Q step L  == over each side of a cell with leaves strictly inside it, the neighbour lies outside the faces, or
 --                         some leaf is in it
@@ -21,9 +22,9 @@ use Rattle.steps.specs.Edges.{backNo, OnEdge, StepLaws}
 use Rattle.steps.proofs.Laws.{back<}
 use Rattle.soundness.specs.Regions.{InFaces}
 use Rattle.soundness.specs.Leaves.{Leaf, Holds, In, Apart}
-use Rattle.soundness.specs.Soundness.{Covers, Meets, Level}
+use Rattle.soundness.specs.Soundness.{Held, Covers, Meets, Level}
 use Rattle.soundness.specs.Inner.{Inner, Around, Fine}
-use Rattle.soundness.proofs.Cells.{le-or-lt, common, past-end, inq-in, inq-or, holds-place, in-holds, in-trans, child-in, Kid, as-kid}
+use Rattle.soundness.proofs.Cells.{le-or-lt, common, past-end, inq-in, inq-or, in-holds, in-place, in-trans, both-around, child-in, Kid, as-kid}
 use Rattle.soundness.proofs.Leaves.{one-holder, in-one, leaves-apart, around-not, present-or, present-inq, inner-present}
 use Rattle.soundness.proofs.Edges.{edge-four, edge-or}
 use Rattle.soundness.proofs.Meets.{meets-not-self}
@@ -49,6 +50,11 @@ module _ (S Q : ℕ) (L : List ℕ) (C : Covers S Q L) where
       (λ h. h)
       (le-or-lt (depth x) (depth p))
 
+  pub inner-held : (p g : ℕ) → CodeOn S p → Inner L p → Holds p g → Held L g
+  inner-held p g w n h =
+      let i = present-inq S Q L C p w (inner-present S Q L C p n) in
+      C .cover g (omega (arith, w .from, h .0)) (omega (arith, past-end p w, h .1)) (inq-in Q p g w h i)
+
   pub parent-inner : (a : ℕ) → Leaf L a → 0 < depth a → Kid S a × Inner L (parentCode a)
   parent-inner a m d =
       let k = as-kid a (C .cells a m) d in
@@ -73,14 +79,14 @@ module _ (S Q : ℕ) (step : ℕ → ℕ → ℕ) (N : StepLaws S step) (L : Lis
           let b = a .leaf in
           let sp = side-place S step N s p l w in
           let g = sp .at in
-          let ip = present-inq S Q L C p w (inner-present S Q L C p n) in
-          let r = C .cover g (omega (arith, w .from, sp .inside .0)) (omega (arith, past-end p w, sp .inside .1)) (inq-in Q p g w (sp .inside) ip) in
+          let r = inner-held S Q L C p g w n (sp .inside) in
           let x = r .leaf in
           let dx : depth p < depth x = deeper-than S Q L C p x g w n (r .is) (r .holds) (sp .inside) in
           let db : depth b < depth p = omega (arith, a .larger, N .level s p l w) in
           let ne : x ≡ b → ⊥ = λ e. omega (arith, ap depth e) in
           let h = in-holds (step s p) b (over step s g) (a .around) (sp .across) in
-          let m = meets-by S step N x s b g l (C .cells x (r .is)) (r .holds) h (λ k. ne (one-holder S Q L C x b (over step s g) (r .is) (a .is) k h)) in
+          let out : Holds x (over step s g) → ⊥ = λ k. ne (one-holder S Q L C x b (over step s g) (r .is) (a .is) k h) in
+          let m = meets-by S step N x s b g l (C .cells x (r .is)) (r .holds) h out in
           omega (arith, v x s b (r .is) (a .is) l m .0)
 
   -- a leaf b over side s of a, two levels larger or more, is strictly around the neighbour of a's parent; or around the parent
@@ -89,7 +95,9 @@ module _ (S Q : ℕ) (step : ℕ → ℕ → ℕ) (N : StepLaws S step) (L : Lis
       both-ways (λ a s b ma mb l m.
       ⊎-elim
       (λ h. h)
-      (λ (h : depth b + 1 < depth a). absurd (clash a s b ma mb l (meets-in S step N a s b l (C .cells a ma) (C .cells b mb) (omega arith) m) h))
+      (λ (h : depth b + 1 < depth a).
+      let i = meets-in S step N a s b l (C .cells a ma) (C .cells b mb) (omega arith) m in
+      absurd (clash a s b ma mb l i h))
       (le-or-lt (depth a) (depth b + 1)))
     where
       clash : (a s b : ℕ) → Leaf L a → Leaf L b → s < 3 → In (step s a) b → depth b + 1 < depth a → ⊥
@@ -112,9 +120,9 @@ module _ (S Q : ℕ) (step : ℕ → ℕ → ℕ) (N : StepLaws S step) (L : Lis
           let st : step s a ≡ t = ap (step s) (k .is) ∙ r .is in
           let it : In t b = subst (λ (x : ℕ). In x b) st i in
           let tn : In t n = child-in n (r .digit) (omega arith) (edge-four (backNo s) (r .digit) (r .on)) in
-          let nb : In n b = common n b (place t) wn wb (omega (arith, k .up)) (in-holds t n (place t) tn (holds-place t)) (in-holds t b (place t) it (holds-place t)) in
+          let nb : In n b = both-around t n b wn wb (omega (arith, k .up)) tn it in
           ⊎-elim
-          (λ o. o (inq-in Q b (place n) wb (in-holds n b (place n) nb (holds-place n)) (C .only b mb)))
+          (λ o. o (inq-in Q b (place n) wb (in-place n b nb) (C .only b mb)))
           (λ pr. around-not S Q L C n wn (record { leaf = b; is = mb; around = nb; larger = omega (arith, k .up) }) pr)
           (f p s wp (pi .1) l))
           (λ (e : OnEdge s q → ⊥).
@@ -123,7 +131,7 @@ module _ (S Q : ℕ) (step : ℕ → ℕ → ℕ) (N : StepLaws S step) (L : Lis
           let st : step s a ≡ t = ap (step s) (k .is) ∙ r .is in
           let it : In t b = subst (λ (x : ℕ). In x b) st i in
           let tp : In t p = child-in p (r .digit) dp (r .four) in
-          let pb : In p b = common p b (place t) wp wb (omega (arith, k .up)) (in-holds t p (place t) tp (holds-place t)) (in-holds t b (place t) it (holds-place t)) in
+          let pb : In p b = both-around t p b wp wb (omega (arith, k .up)) tp it in
           let ab : a ≡ b = in-one S Q L C a b ma mb (in-trans a p b (k .inside) pb) in
           omega (arith, ap depth ab))
           (edge-or s q)

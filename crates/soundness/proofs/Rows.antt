@@ -14,7 +14,7 @@ use Rattle.steps.specs.Edges.{backNo, first, OnEdge, StepLaws}
 use Rattle.soundness.specs.Leaves.{Leaf}
 use Rattle.soundness.specs.Soundness.{Covers, Level}
 use Rattle.soundness.specs.Inner.{Present, Inner, Fine, Rows}
-use Rattle.soundness.proofs.Cells.{le-or-lt, inq-in, inq-or, holds-place, in-holds, in-trans, depth-child, child-in, child-cell, parent-child, last-child, as-kid}
+use Rattle.soundness.proofs.Cells.{le-or-lt, inq-in, inq-or, in-place, in-trans, depth-child, child-in, child-cell, parent-child, last-child, as-kid}
 use Rattle.soundness.proofs.Leaves.{present-or, present-up, inner-kid, inner-kid-present}
 use Rattle.soundness.proofs.Edges.{edge-four, edge-or}
 use Rattle.soundness.proofs.Level.{parent-inner, level-inners, inners-level}
@@ -22,7 +22,7 @@ use Rattle.soundness.proofs.Level.{parent-inner, level-inners, inners-l
 module _ (S Q : ℕ) (L : List ℕ) (C : Covers S Q L) where
   fine-up : (n r : ℕ) → CodeOn S n → depth n < 26 → r < 4 → Fine Q L (childCode n r) → Fine Q L n
   fine-up n r w d h (inl o) =
-      inl (λ i. o (inq-in Q n (place (childCode n r)) w (in-holds (childCode n r) n (place (childCode n r)) (child-in n r d h) (holds-place (childCode n r))) i))
+      inl (λ i. o (inq-in Q n (place (childCode n r)) w (in-place (childCode n r) n (child-in n r d h)) i))
   fine-up n r w d h (inr p) = inr (present-up S Q L C (childCode n r) n (child-in n r d h) p)
 
   fine-face : (n : ℕ) → CodeOn S n → depth n ≡ 0 → Fine Q L n
@@ -35,7 +35,8 @@ module _ (S Q : ℕ) (L : List ℕ) (C : Covers S Q L) where
 module _ (S Q : ℕ) (step : ℕ → ℕ → ℕ) (N : StepLaws S step) (L : List ℕ) (C : Covers S Q L) where
   -- the first child of p on side s is a leaf, and p is no face: the leaf's row asks for the side, or the neighbour of p is a
   -- child of p's parent
-  rows-leaf : Rows Q step L → (p s : ℕ) → CodeOn S p → Inner L p → s < 3 → depth p < 26 → Leaf L (childCode p (first s)) → 0 < depth p → Fine Q L (step s p)
+  rows-leaf : Rows Q step L → (p s : ℕ) → CodeOn S p → Inner L p → s < 3 → depth p < 26 → Leaf L (childCode p (first s)) → 0 < depth p →
+      Fine Q L (step s p)
   rows-leaf f p s w n l d leaf z =
       let q = first s in
       let four = edge-four s q (inl refl) in
@@ -46,7 +47,12 @@ module _ (S Q : ℕ) (step : ℕ → ℕ → ℕ) (N : StepLaws S step) (L : Lis
       ⊎-elim
       (λ (on : OnEdge s (lastDigit p)).
       subst (λ (x : ℕ). Fine Q L (step s x)) e
-      (f s k leaf (record { low = l; two = omega (arith, depth-child p q d); digit = last-child p q w d four; above = subst (λ (x : ℕ). OnEdge s (lastDigit x)) (sym e) on })))
+      (f s k leaf (record {
+        low = l;
+        two = omega (arith, depth-child p q d);
+        digit = last-child p q w d four;
+        above = subst (λ (x : ℕ). OnEdge s (lastDigit x)) (sym e) on;
+      })))
       (λ (off : OnEdge s (lastDigit p) → ⊥).
       let r = N .within s pp (lastDigit p) l (up .cell) (omega (arith, up .up)) (up .four) off in
       let st : step s p ≡ childCode pp (r .digit) = ap (step s) (up .is) ∙ r .is in

@@ -51,7 +51,8 @@ finest-on {S} a g w h =
 neighbour-on : (S : ℕ) (s : Side) (x y : ℕ) → CodeOn S x → Code y → Neighbour s (cellOf x) (cellOf y) → CodeOn S y
 unfolding cellOf
 neighbour-on S s x y w c n =
-    let e : solid y ≡ solid x = sym (no-solid (solid y) (c .known)) ∙ ap solidNo (n .solid) ∙ no-solid (solid x) (on-solid-code S x w .known) in
+    let k = on-solid-code S x w .known in
+    let e : solid y ≡ solid x = sym (no-solid (solid y) (c .known)) ∙ ap solidNo (n .solid) ∙ no-solid (solid x) k in
     subst (λ (T : ℕ). CodeOn T y) (e ∙ solid-is S x w) (code-on-solid y c)
 
 abbrev pub over : (ℕ → ℕ → ℕ) → ℕ → ℕ → ℕ
@@ -63,6 +64,7 @@ pub record SidePlace (step : ℕ → ℕ → ℕ) (s a : ℕ) : Type 0 where
   pub inside : Holds a at
   pub across : Holds (step s a) (over step s at)
 
+-- for a cell of depth 26, its only place
 at-finest : (step : ℕ → ℕ → ℕ) (s a g : ℕ) → depth a ≡ 26 → Holds a g → Holds (step s a) (over step s g)
 at-finest step s a g d k = subst (λ (x : ℕ). Holds (step s a) (place (step s x))) (finest-is a g d k) (holds-place (step s a))
 
@@ -97,7 +99,8 @@ module _ (S : ℕ) (step : ℕ → ℕ → ℕ) (N : StepLaws S step) where
       }
 
   -- the step of a child holds nothing that neither the cell nor its own step holds
-  raise : (s a q g : ℕ) → s < 3 → CodeOn S a → depth a < 26 → q < 4 → Holds (childCode a q) g ⊎ Holds (step s (childCode a q)) g → Holds a g ⊎ Holds (step s a) g
+  raise : (s a q g : ℕ) → s < 3 → CodeOn S a → depth a < 26 → q < 4 →
+      Holds (childCode a q) g ⊎ Holds (step s (childCode a q)) g → Holds a g ⊎ Holds (step s a) g
   raise s a q g l w d h (inl k) = inl (in-holds (childCode a q) a g (child-in a q d h) k)
   raise s a q g l w d h (inr k) =
       ⊎-elim
@@ -125,21 +128,25 @@ module _ (S : ℕ) (step : ℕ → ℕ → ℕ) (N : StepLaws S step) where
   pub across-or-in : (s a g : ℕ) → s < 3 → CodeOn S a → Holds a g → Holds a (over step s g) ⊎ Holds (step s a) (over step s g)
   across-or-in s a g l w k = across-by 26 s a g l (omega arith) w k
 
+  finest-place : (s a : ℕ) → depth a ≡ 26 → SidePlace step s a
+  finest-place s a d = record { at = place a; inside = holds-place a; across = at-finest step s a (place a) d (holds-place a) }
+
   side-by : (n s a : ℕ) → s < 3 → 26 ≤ depth a + n → CodeOn S a → SidePlace step s a
-  side-by zero s a l h w = record { at = place a; inside = holds-place a; across = at-finest step s a (place a) (omega (arith, w .deep)) (holds-place a) }
+  side-by zero s a l h w = finest-place s a (omega (arith, w .deep))
   side-by (suc n) s a l h w =
       ⊎-elim
-      (λ (e : 26 ≤ depth a). record { at = place a; inside = holds-place a; across = at-finest step s a (place a) (omega (arith, w .deep)) (holds-place a) })
+      (λ (e : 26 ≤ depth a). finest-place s a (omega (arith, w .deep)))
       (λ (d : depth a < 26).
       let q = first s in
       let four = edge-four s q (inl refl) in
       let p = side-by n s (childCode a q) l (omega (arith, depth-child a q d)) (child-cell a q w d four) in
       let r = N .edge s a q l w d (inl refl) in
       let i = child-in (step s a) (r .digit) (omega (arith, N .level s a l w)) (edge-four (backNo s) (r .digit) (r .on)) in
+      let o = over step s (p .at) in
       record {
         at = p .at;
         inside = in-holds (childCode a q) a (p .at) (child-in a q d four) (p .inside);
-        across = in-holds (childCode (step s a) (r .digit)) (step s a) (over step s (p .at)) i (subst (λ (x : ℕ). Holds x (over step s (p .at))) (r .is) (p .across));
+        across = in-holds (childCode (step s a) (r .digit)) (step s a) o i (subst (λ (x : ℕ). Holds x o) (r .is) (p .across));
       })
       (le-or-lt 26 (depth a))
 

@@ -1,6 +1,7 @@
 -- What a side of a leaf meets, and what stands in the way of a change.
 --
 --   MetIs L a s m       == side s of the leaf a meets m: one larger or equal leaf, two smaller ones, or nothing
+--   OneOrTwo L a s      == it meets one leaf, equal or larger, or exactly two smaller
 --   levelUp m           == the neighbouring leaf's level minus the leaf's own, and 1
 --   BlocksRefine L a b  == b is a larger leaf that a side of a meets
 --   BlocksCoarsen L c b == b is a smaller leaf that a side of one of the four children of c meets
@@ -42,6 +43,11 @@ MetIs L a s (Larger b) = Only L a s b × (depth b + 1 ≡ depth a)
 MetIs L a s (Equal b) = Only L a s b × (depth b ≡ depth a)
 MetIs L a s (Smaller b c) = Two L a s b c
 MetIs L a s Open = (x : ℕ) → Leaf L x → Meets a s x → ⊥
+
+pub data OneOrTwo (L : List ℕ) (a s : ℕ) : Type 0 where
+  one-larger : (b : ℕ) → MetIs L a s (Larger b) → OneOrTwo L a s
+  one-equal : (b : ℕ) → MetIs L a s (Equal b) → OneOrTwo L a s
+  two-smaller : (b c : ℕ) → MetIs L a s (Smaller b c) → OneOrTwo L a s
 
 -- "the neighbouring leaf's level minus its own, −1, 0 or 1": as a number from 0, one more
 abbrev pub levelUp : Met → ℕ

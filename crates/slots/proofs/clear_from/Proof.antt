@@ -1,4 +1,4 @@
--- From `i` on every slot is zero, and before it nothing has changed.
+-- From `k` on every slot is zero, and before it nothing has changed.
 -- Assumes nothing.
 use mathlib.Core.List.{List}
 use mathlib.Core.Path.{_≡_, refl, ap, _∙_}
@@ -12,16 +12,16 @@ use Rattle.slots.proofs.clear_from.Statement.{statement}
 use Rattle.slots.proofs.clear_from.Tie as tie
 
 abbrev Inv-loop : tie.InvT-loop
-Inv-loop slots₀ n i₀ slots i = (n ≤ i) × (i ≤ length slots) × (length slots ≡ length slots₀) × (slots ≡ clearedFrom slots₀ i)
+Inv-loop slots₀ n k₀ slots k = (n ≤ k) × (k ≤ length slots) × (length slots ≡ length slots₀) × (slots ≡ clearedFrom slots₀ k)
 
 abbrev μ-loop : tie.MeasureT-loop
-μ-loop slots₀ n i₀ slots i = i
+μ-loop slots₀ n k₀ slots k = k
 
 loop-holds : tie.Need-loop-holds Inv-loop μ-loop
 loop-holds c = (omega arith, omega arith, refl, cleared-none (c .args .slots .now))
 
-sub-i : tie.Need-sub-i Inv-loop μ-loop
-sub-i c = omega arith
+sub-k : tie.Need-sub-k Inv-loop μ-loop
+sub-k c = omega arith
 
 mul-slots : tie.Need-mul-slots Inv-loop μ-loop
 mul-slots c = search needs
@@ -36,9 +36,9 @@ loop-again : tie.Need-loop-again Inv-loop μ-loop
 loop-again c =
     let xs : List ℕ = c .before .before .args .slots .now in
     let l = c .before .loop in
-    let e : l .i ≡ suc (l .i - 1) = omega arith in
-    let s : length (set (l .slots) (l .i - 1) 0) ≡ length (l .slots) = length-set (l .slots) (l .i - 1) 0 in
-    (omega arith, omega arith, omega arith, ap (λ (t : List ℕ). set t (l .i - 1) 0) (l .inv .3 ∙ ap (clearedFrom xs) e) ∙ cleared-more xs (l .i - 1) (omega arith))
+    let e : l .k ≡ suc (l .k - 1) = omega arith in
+    let s : length (set (l .slots) (l .k - 1) 0) ≡ length (l .slots) = length-set (l .slots) (l .k - 1) 0 in
+    (omega arith, omega arith, omega arith, ap (λ (t : List ℕ). set t (l .k - 1) 0) (l .inv .3 ∙ ap (clearedFrom xs) e) ∙ cleared-more xs (l .k - 1) (omega arith))
 
 same-length : tie.Need-same-length Inv-loop μ-loop
 same-length c = omega arith
@@ -46,7 +46,7 @@ same-length c = omega arith
 returns : tie.Need-returns Inv-loop μ-loop
 returns c =
     let s = c .before .before in
-    let e : c .before .loop .i ≡ s .args .n = omega arith in
+    let e : c .before .loop .k ≡ s .args .n = omega arith in
     c .before .loop .inv .3 ∙ ap (clearedFrom (s .args .slots .now)) e
 
 pub clear-from-spec : {M : Type 1} → statement M
@@ -56,7 +56,7 @@ clear-from-spec =
     Inv-loop
     μ-loop
     loop-holds
-    sub-i
+    sub-k
     mul-slots
     slice-write-slots
     loop-less
