@@ -37,7 +37,7 @@ shared-slice-read-side-of c = omega arith
 side-of-requires : tie.Need-side-of-requires Inv-loop μ-loop Inv-search μ-search
 side-of-requires c κs =
     let s = c .before .before .before .before .before .before .before in
-    (s .pre .0, all-in _ _ _ _ (s .pre .1) (omega arith), c .before .loop-test .taken)
+    (s .pre .0, all-in _ _ _ _ (s .pre .1) (omega arith), omega arith)
 
 candidate-requires : tie.Need-candidate-requires Inv-loop μ-loop Inv-search μ-search
 candidate-requires c κs = search needs
@@ -89,7 +89,8 @@ returns-2 c =
     let s = c .before .before .before .before .before .before .before .before .before .before .before in
     let i = c .before .before .before .before .before .before .before .before .search .i in
     let side = c .before .before .before .before .before .before .loop .side in
-    first-least _ _ _ _ _ (s .pre .0) (s .pre .1) i side _ (omega arith) (omega arith) (c .if2 .taken) (one-side (c .before .before))
+    first-least _ _ _ _ _ (s .pre .0) (s .pre .1) i side (c .before .before .candidate .result) (omega arith) (omega arith) (omega arith)
+    (one-side (c .before .before))
 
 pub least-blocker-spec : {M : Type 1} → statement M
 least-blocker-spec =
