@@ -12,7 +12,7 @@ use Rattle.slots.proofs.clear_from.Statement.{statement}
 use Rattle.slots.proofs.clear_from.Tie as tie
 
 abbrev Inv-loop : tie.InvT-loop
-Inv-loop slots₀ n k₀ slots k = (n ≤ k) × (k ≤ length slots) × (length slots ≡ length slots₀) × (slots ≡ clearedFrom slots₀ k)
+Inv-loop slots₀ n k₀ slots k = (n ≤ k) × (k ≤ length slots₀) × (length slots ≡ length slots₀) × (slots ≡ clearedFrom slots₀ k)
 
 abbrev μ-loop : tie.MeasureT-loop
 μ-loop slots₀ n k₀ slots k = k
@@ -36,9 +36,12 @@ loop-again : tie.Need-loop-again Inv-loop μ-loop
 loop-again c =
     let xs : List ℕ = c .before .before .args .slots .now in
     let l = c .before .loop in
-    let e : l .k ≡ suc (l .k - 1) = omega arith in
-    let s : length (set (l .slots) (l .k - 1) 0) ≡ length (l .slots) = length-set (l .slots) (l .k - 1) 0 in
-    (omega arith, omega arith, omega arith, ap (λ (t : List ℕ). set t (l .k - 1) 0) (l .inv .3 ∙ ap (clearedFrom xs) e) ∙ cleared-more xs (l .k - 1) (omega arith))
+    let e : l .k ≡ suc (l .k - 1) = omega arith in (
+      omega arith,
+      omega arith,
+      simp length-set (l .inv .2),
+      ap (λ (t : List ℕ). set t (l .k - 1) 0) (l .inv .3 ∙ ap (clearedFrom xs) e) ∙ cleared-more xs (l .k - 1) (omega arith),
+    )
 
 same-length : tie.Need-same-length Inv-loop μ-loop
 same-length c = omega arith

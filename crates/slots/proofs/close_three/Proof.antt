@@ -48,7 +48,7 @@ loop-again c =
     let xs : List ℕ = a .slots .now in (
       omega arith,
       omega arith,
-      length-set (l .slots) (l .k) (getD (l .slots) (l .k + 3) 0) ∙ l .inv .2,
+      simp length-set (l .inv .2),
       ap (λ (t : List ℕ). set t (l .k) (getD t (l .k + 3) 0)) (l .inv .3) ∙ closed-more xs (a .at) (l .k) (omega arith) (omega arith),
     )
 

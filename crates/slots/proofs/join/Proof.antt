@@ -8,10 +8,10 @@ use Rattle.slots.proofs.join.Statement.{statement}
 use Rattle.slots.proofs.join.Tie as tie
 
 sub-free : tie.Need-sub-free
-sub-free c = search needs
+sub-free c = omega arith
 
 add-close-three : tie.Need-add-close-three
-add-close-three c = search needs
+add-close-three c = omega arith
 
 close-three-requires : tie.Need-close-three-requires
 close-three-requires c κs = search needs
@@ -20,7 +20,7 @@ mul-slots : tie.Need-mul-slots
 mul-slots c = search needs
 
 slice-write-slots : tie.Need-slice-write-slots
-slice-write-slots c = search needs
+slice-write-slots c = omega arith
 
 mul-slots-2 : tie.Need-mul-slots-2
 mul-slots-2 c = search needs
@@ -29,7 +29,7 @@ slice-write-slots-2 : tie.Need-slice-write-slots-2
 slice-write-slots-2 c = simp length-set (omega arith)
 
 add-slots : tie.Need-add-slots
-add-slots c = search needs
+add-slots c = omega arith
 
 mul-slots-3 : tie.Need-mul-slots-3
 mul-slots-3 c = search needs
@@ -38,7 +38,7 @@ slice-write-slots-3 : tie.Need-slice-write-slots-3
 slice-write-slots-3 c = simp length-set (omega arith)
 
 add-slots-2 : tie.Need-add-slots-2
-add-slots-2 c = search needs
+add-slots-2 c = omega arith
 
 mul-slots-4 : tie.Need-mul-slots-4
 mul-slots-4 c = search needs

@@ -50,7 +50,7 @@ loop-again c =
     let e : l .k ≡ suc k = omega arith in (
       omega arith,
       omega arith,
-      length-set (l .slots) (k + 3) (getD (l .slots) k 0) ∙ l .inv .2,
+      simp length-set (l .inv .2),
       ap (λ (t : List ℕ). set t (k + 3) (getD t k 0)) (l .inv .3 ∙ ap (λ (i : ℕ). opened xs i (a .n)) e)
           ∙ opened-more xs (a .n) (omega arith) k (omega arith),
     )

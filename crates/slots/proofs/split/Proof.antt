@@ -8,7 +8,7 @@ use Rattle.slots.proofs.split.Statement.{statement}
 use Rattle.slots.proofs.split.Tie as tie
 
 add-open-three : tie.Need-add-open-three
-add-open-three c = search needs
+add-open-three c = omega arith
 
 open-three-requires : tie.Need-open-three-requires
 open-three-requires c κs = search needs
@@ -17,10 +17,10 @@ mul-slots : tie.Need-mul-slots
 mul-slots c = search needs
 
 slice-write-slots : tie.Need-slice-write-slots
-slice-write-slots c = search needs
+slice-write-slots c = omega arith
 
 add-slots : tie.Need-add-slots
-add-slots c = search needs
+add-slots c = omega arith
 
 mul-slots-2 : tie.Need-mul-slots-2
 mul-slots-2 c = search needs
@@ -29,7 +29,7 @@ slice-write-slots-2 : tie.Need-slice-write-slots-2
 slice-write-slots-2 c = simp length-set (omega arith)
 
 add-slots-2 : tie.Need-add-slots-2
-add-slots-2 c = search needs
+add-slots-2 c = omega arith
 
 mul-slots-3 : tie.Need-mul-slots-3
 mul-slots-3 c = search needs
@@ -38,7 +38,7 @@ slice-write-slots-3 : tie.Need-slice-write-slots-3
 slice-write-slots-3 c = simp length-set (omega arith)
 
 add-slots-3 : tie.Need-add-slots-3
-add-slots-3 c = search needs
+add-slots-3 c = omega arith
 
 mul-slots-4 : tie.Need-mul-slots-4
 mul-slots-4 c = search needs
