@@ -1,11 +1,11 @@
 -- Where the linear pass stands, and how it goes on.
 --
---   Pass w i    == the first i slots follow each other from the first place of the solid, and the next leaf is to begin at w
---   pass-start  == before the first slot
---   pass-cell   == a slot that begins at w is a code of the solid
---   pass-more   == one more slot
---   pass-none   == there is no slot that begins at w: no prefix is a tiling
---   pass-end    == w is the end of the solid
+--   Pass S Q xs w i == the first i slots follow each other from the first place of the solid, and the next is to begin at w
+--   pass-start      == before the first slot
+--   pass-cell       == a slot that begins at w is a code of the solid
+--   pass-more       == one more slot
+--   pass-zero       == no slot begins at w, so no prefix is a tiling
+--   pass-end        == w is the end of the solid
 --
 -- Assumes nothing.
 use mathlib.Core.List.{List}
@@ -59,13 +59,12 @@ module _ (S Q : ℕ) (known : Known S) (xs : List ℕ) where
         there = k .there;
       }
 
-  pub pass-none : (w i : ℕ) → Pass S Q xs w i → w < end S → (i < length xs → Begins (getD xs i 0) w → ⊥) →
+  pass-none : (w i : ℕ) → Pass S Q xs w i → w < end S → (i < length xs → Begins (getD xs i 0) w → ⊥) →
       (m : ℕ) → m ≤ length xs → Tiling S Q (take m xs) → ⊥
   pass-none w i p h n m l t =
       let f = fits S Q xs w i m (p .index) l (p .tiles) (pass-in w i p h) h t in
       n (omega (arith, f .more)) (record { at = f .at; deep = f .cell .deep; tail = f .cell .tail })
 
-  -- so the answer is 0
   pub pass-zero : (w i : ℕ) → Pass S Q xs w i → w < end S → (i < length xs → Begins (getD xs i 0) w → ⊥) → Counts S Q xs 0
   pass-zero w i p h n =
       record { upto = omega arith; some = λ z. absurd (omega arith); none = λ z m y l t. pass-none w i p h n m l t }

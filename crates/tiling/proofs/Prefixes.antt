@@ -1,7 +1,7 @@
 -- Prefixes of a slice that are tilings: there is at most one, and it fixes the next slot.
 --
---   prefix-one      == at most one prefix is a tiling
---   fits            == where some prefix is a tiling, the next slot begins at the next place
+--   prefix-one == at most one prefix is a tiling
+--   fits       == where some prefix is a tiling, the next slot begins at the next place
 --
 -- Assumes nothing.
 use mathlib.Core.List.{List, [], _∷_, _++_}

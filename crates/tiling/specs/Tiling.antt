@@ -1,8 +1,8 @@
 -- What the linear pass over the slots xs tells; S is the number of the solid, Q the set of faces.
 --
---   Skipped Q e g r  == r is the first place of the faces Q from g on, or e if there is none below e
---   Begins x g       == x is the code of a cell that begins at the place g
---   Counts S Q xs r  == the first r slots tile the faces Q; if r is 0, no first slots do
+--   Skipped Q e g r == r is the first place of the faces Q from g on, or e if there is none below e
+--   Begins x g      == x is the code of a cell that begins at the place g
+--   Counts S Q xs r == the first r slots tile the faces Q; if r is 0, no first slots do
 --
 -- Assumes nothing.
 use mathlib.Core.List.{List}

@@ -1,5 +1,4 @@
--- The slots before `i` follow each other up to `want`; at the end of the solid they are a tiling, and a slot that does not
--- begin at `want` is in no tiling.
+-- The slots before `i` follow each other up to `want`, where the next one of every tiling begins.
 -- Assumes nothing.
 use mathlib.Core.Path.{_≡_, refl}
 use Prim.Native.Nat.{_+_, _-_, _≤_}
