@@ -8,7 +8,8 @@ use borrow.Author.Tests.{not-true, not-false}
 use lib.ListN.{getD, take}
 use Rattle.refusals.proofs.Answers.{tells-yes, tells-no}
 use Rattle.balance.specs.Tiled.{SidesFine}
-use Rattle.balance.proofs.Asked.{slot-tiled, rows-all, rows-at}
+use Rattle.balance.proofs.Tiled.{slot-tiled}
+use Rattle.balance.proofs.Rows.{rows-all, rows-at}
 use Rattle.balance.proofs.balanced.Statement.{statement}
 use Rattle.balance.proofs.balanced.Tie as tie
 
@@ -31,7 +32,7 @@ sides-fine-requires : tie.Need-sides-fine-requires Inv-loop μ-loop
 sides-fine-requires c κs =
     let s = c .before .before .before .before in
     let l = c .before .before .loop in
-    (s .pre .0, slot-tiled (s .args .faces) (s .args .slots .now) (s .args .n) (s .pre .0) (s .pre .1) (l .i) (omega arith))
+    (s .pre .0, slot-tiled (s .args .faces) (s .args .slots .now) (s .args .n) (s .pre .0) (l .i) (omega arith) (s .pre .1))
 
 returns : tie.Need-returns Inv-loop μ-loop
 returns c =

@@ -2,7 +2,7 @@
 -- Assumes nothing.
 use mathlib.Core.List.{List}
 use mathlib.Core.Path.{_≡_, subst}
-use Prim.Native.Nat.{ℕ, _/_, _<_}
+use Prim.Native.Nat.{ℕ, _<_}
 use native.Mathlib.Omega.{arith}
 use borrow.Author.Needs.{needs}
 use lib.Dec.{eqb}
@@ -12,7 +12,8 @@ use Rattle.refusals.proofs.Answers.{tells-no}
 use Rattle.refusals.specs.Answers.{Tells}
 use Rattle.codes.specs.Places.{place}
 use Rattle.soundness.specs.Inner.{Present}
-use Rattle.balance.proofs.Presence.{tiled-covers, present-tells, present-none}
+use Rattle.balance.proofs.Tiled.{tiled-covers}
+use Rattle.balance.proofs.Presence.{present-tells, present-none}
 use Rattle.balance.proofs.has_some.Statement.{statement}
 use Rattle.balance.proofs.has_some.Tie as tie
 
