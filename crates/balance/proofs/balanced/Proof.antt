@@ -14,13 +14,13 @@ use Rattle.balance.proofs.balanced.Statement.{statement}
 use Rattle.balance.proofs.balanced.Tie as tie
 
 abbrev Inv-loop : tie.InvT-loop
-Inv-loop slots n faces i₀ i = (i ≤ n) × ((k : ℕ) → k < i → SidesFine faces (take n slots) (getD slots k 0))
+Inv-loop slots n faces i₀ i = ((k : ℕ) → k < i → SidesFine faces (take n slots) (getD slots k 0)) × (i ≤ n)
 
 abbrev μ-loop : tie.MeasureT-loop
 μ-loop slots n faces i₀ i = n - i
 
 loop-holds : tie.Need-loop-holds Inv-loop μ-loop
-loop-holds c = (omega arith, below-none _)
+loop-holds c = (below-none _, omega arith)
 
 mul-sides-fine : tie.Need-mul-sides-fine Inv-loop μ-loop
 mul-sides-fine c = search needs
@@ -51,12 +51,12 @@ loop-less c = omega arith
 loop-again : tie.Need-loop-again Inv-loop μ-loop
 loop-again c =
     let l = c .before .before .before .before .loop in
-    (omega arith, below-more _ _ (l .inv .1) (c .before .sides-fine .ensures .yes (not-false _ (c .if1 .left))))
+    (below-more _ _ (l .inv .0) (c .before .sides-fine .ensures .yes (not-false _ (c .if1 .left))), omega arith)
 
 returns-2 : tie.Need-returns-2 Inv-loop μ-loop
 returns-2 c =
     let s = c .before .before .before in
-    tells-yes (rows-all (s .args .faces) (s .args .slots .now) (s .args .n) (s .pre .0) (λ k h. c .before .loop .inv .1 k (omega arith)))
+    tells-yes (rows-all (s .args .faces) (s .args .slots .now) (s .args .n) (s .pre .0) (λ k h. c .before .loop .inv .0 k (omega arith)))
 
 pub balanced-spec : {M : Type 1} → statement M
 balanced-spec =
