@@ -3,21 +3,16 @@
 use mathlib.Core.Bool.{Bool, true, false, true≢false}
 use mathlib.Core.List.{List}
 use mathlib.Core.Logic.{_⊎_, inl, inr, ⊎-elim}
-use mathlib.Core.Path.{_≡_, refl, sym, _∙_, subst}
+use mathlib.Core.Path.{_≡_, sym, _∙_}
 use Prim.Native.Nat.{ℕ, zero, suc, _+_, _*_, _%_, _<_, _≤_}
 use native.Mathlib.Omega.{arith}
-use lib.ListN.{length, getD, take}
-use lib.Seq.{getD-take, length-take-le}
 use Rattle.refusals.specs.Answers.{Tells}
 use Rattle.codes.specs.Codes.{depth}
 use Rattle.codes.specs.Places.{parentCode, lastDigit}
 use Rattle.steps.specs.Stepped.{stepCode}
 use Rattle.steps.specs.Edges.{first, second, OnEdge}
-use Rattle.soundness.specs.Leaves.{Leaf}
-use Rattle.soundness.specs.Inner.{Fine, Asked, Rows}
-use Rattle.soundness.proofs.Tiles.{tiling-covers}
-use Rattle.soundness.proofs.Leaves.{leaf-at, take-at-leaf}
-use Rattle.balance.specs.Tiled.{Tiled, TiledFor, SidesFine}
+use Rattle.soundness.specs.Inner.{Fine, Asked}
+use Rattle.balance.specs.Tiled.{SidesFine}
 
 -- the side s is asked for at the two digits v
 abbrev pub Row : ℕ → ℕ → Type 0
@@ -96,22 +91,3 @@ module _ (a v : ℕ) (e : v ≡ lastDigit (parentCode a) * 4 + lastDigit a) wher
           let none-0 : Row 0 v → Fine Q L (stepCode 0 (parentCode a)) = row-not (λ r. omega arith) (λ r. omega arith) in
           let none-1 : Row 1 v → Fine Q L (stepCode 1 (parentCode a)) = row-not (λ r. omega arith) (λ r. omega arith) in
           side-tells 2 (omega arith) k (λ w. sides-of none-0 none-1 (λ r. t .yes w)) t
-
--- all leaves, by index
-
-module _ (Q : ℕ) (xs : List ℕ) (n : ℕ) (h : n ≤ length xs) where
-  slot-leaf : (i : ℕ) → i < n → Leaf (take n xs) (getD xs i 0)
-  slot-leaf i l =
-      subst (λ (x : ℕ). Leaf (take n xs) x) (getD-take n xs i 0 l) (leaf-at (take n xs) i (omega (arith, length-take-le n xs h)))
-
-  pub slot-tiled : Tiled Q (take n xs) → (i : ℕ) → i < n → TiledFor Q (take n xs) (getD xs i 0)
-  slot-tiled k i l =
-      record { solid = k .solid; tiling = k .tiling; code = tiling-covers (k .solid) Q (take n xs) (k .tiling) .cells (getD xs i 0) (slot-leaf i l) }
-
-  pub rows-all : ((i : ℕ) → i < n → SidesFine Q (take n xs) (getD xs i 0)) → Rows Q stepCode (take n xs)
-  rows-all f s a m q =
-      let r = take-at-leaf xs n a m h in
-      subst (λ (x : ℕ). Fine Q (take n xs) (stepCode s (parentCode x))) (r .2) (f (r .0) (r .1) s (subst (Asked s) (sym (r .2)) q))
-
-  pub rows-at : Rows Q stepCode (take n xs) → (i : ℕ) → i < n → SidesFine Q (take n xs) (getD xs i 0)
-  rows-at f i l s q = f s (getD xs i 0) (slot-leaf i l) q

@@ -1,8 +1,8 @@
--- Of leaves that tile, one search tells whether some are in a cell on their faces.
+-- Whether a cell is on the faces is told by a bit, whether some leaf is in it by one search.
 -- Assumes nothing.
 use mathlib.Core.Bool.{Bool}
 use mathlib.Core.List.{List}
-use mathlib.Core.Logic.{_⊎_, inl, inr, ⊎-elim}
+use mathlib.Core.Logic.{inr, ⊎-elim}
 use mathlib.Core.Path.{_≡_, ap, sym, _∙_, subst}
 use Prim.Native.Nat.{ℕ, _/_, _%_, _^_, _<_, _≤_}
 use native.Mathlib.Omega.{arith}
@@ -12,20 +12,13 @@ use lib.Dec.{eqb}
 use lib.ListN.{length, getD}
 use Rattle.refusals.specs.Answers.{Tells}
 use Rattle.refusals.proofs.Answers.{tells-eq}
-use Rattle.geometry.specs.Cells.{parent}
-use Rattle.codes.specs.Codes.{face, depth, Code, cellOf, codeOf}
-use Rattle.codes.specs.Places.{place, CodeOn, parentCode}
-use Rattle.codes.proofs.Places.{on-solid-code, parent-place}
-use Rattle.steps.specs.Stepped.{stepCode}
-use Rattle.steps.proofs.Laws.{step-laws}
+use Rattle.codes.specs.Codes.{face}
+use Rattle.codes.specs.Places.{place}
 use Rattle.soundness.specs.Regions.{InFaces, faceOf}
-use Rattle.soundness.specs.Leaves.{Ascends}
-use Rattle.soundness.specs.Soundness.{Covers}
 use Rattle.soundness.specs.Inner.{Present, Below, Fine}
-use Rattle.soundness.proofs.Cells.{as-kid}
-use Rattle.soundness.proofs.Tiles.{tiling-covers}
 use Rattle.soundness.proofs.Leaves.{present-at, at-present}
-use Rattle.balance.specs.Tiled.{TiledFor, TiledAround}
+use Rattle.balance.specs.Tiled.{TiledAround}
+use Rattle.balance.proofs.Tiled.{tiled-covers}
 
 pub face-tells : (Q x f : ℕ) → f ≡ face x → Tells (eqb (bitAnd (Q / 2 ^ f) 1) 1) (InFaces Q (place x))
 unfolding InFaces
@@ -33,9 +26,6 @@ face-tells Q x f e =
     let g : f ≡ faceOf (place x) = omega arith in
     let m : bitAnd (Q / 2 ^ f) 1 ≡ Q / 2 ^ faceOf (place x) % 2 = and-mask (Q / 2 ^ f) 1 ∙ ap (λ (n : ℕ). Q / 2 ^ n % 2) g in
     subst (λ (n : ℕ). Tells (eqb n 1) (InFaces Q (place x))) (sym m) (tells-eq (Q / 2 ^ faceOf (place x) % 2) 1)
-
-pub tiled-covers : {Q : ℕ} {L : List ℕ} {c : ℕ} (k : TiledFor Q L c) → Covers (k .solid) Q L
-tiled-covers {Q} {L} k = tiling-covers (k .solid) Q L (k .tiling)
 
 module _ (L : List ℕ) (c r : ℕ) (k : TiledAround L c) (B : Below L c r) where
   pub present-tells : r < length L → Tells (eqb (place (getD L r 0)) (place c)) (Present L c)
@@ -50,20 +40,3 @@ module _ (L : List ℕ) (c r : ℕ) (k : TiledAround L c) (B : Below L c r) wher
 
 pub fine-tells : (Q : ℕ) (L : List ℕ) (c : ℕ) {b : Bool} → InFaces Q (place c) → Tells b (Present L c) → Tells b (Fine Q L c)
 fine-tells Q L c i t = record { yes = λ e. inr (t .yes e); no = λ e f. ⊎-elim (λ n. n i) (λ p. t .no e p) f }
-
--- the parent, and what a step leads to, are codes of the same solid
-
-pub tiled-code : {Q : ℕ} {L : List ℕ} {c : ℕ} → TiledFor Q L c → Code c
-tiled-code {c = c} k = on-solid-code (k .solid) c (k .code)
-
-module _ {Q : ℕ} {L : List ℕ} {a p : ℕ} (k : TiledFor Q L a) (h : 0 < depth a) (e : p ≡ codeOf (parent (cellOf a))) where
-  pub parent-is : p ≡ parentCode a
-  parent-is = e ∙ parent-place a (tiled-code k) h
-
-  pub parent-tiled : TiledFor Q L p
-  parent-tiled =
-      record { solid = k .solid; tiling = k .tiling; code = subst (λ (n : ℕ). CodeOn (k .solid) n) (sym parent-is) (as-kid a (k .code) h .cell) }
-
-pub step-tiled : {Q : ℕ} {L : List ℕ} {p n : ℕ} (s : ℕ) → TiledFor Q L p → s < 3 → n ≡ stepCode s p → TiledFor Q L n
-step-tiled {p = p} s k h e =
-    record { solid = k .solid; tiling = k .tiling; code = subst (λ (n : ℕ). CodeOn (k .solid) n) (sym e) (step-laws (k .solid) .on s p h (k .code)) }

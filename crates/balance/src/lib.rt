@@ -56,12 +56,8 @@ fn side_fine(slots: &[u64], n: usize, faces: u64, leaf: u64, side: u64) -> bool
     requires { ⌜ (n ≤ length (now slots)) × TiledFor faces (take n (now slots)) leaf × (0 < depth leaf) × (side < 3) ⌝ }
     ensures { λ r. ⌜ Tells r (Fine faces (take n (now (slots .entry))) (stepCode side (parentCode leaf))) ⌝ }
 {
-    is_fine(
-        slots,
-        n,
-        faces,
-        steps::step_of(codes::parent_of(leaf), side),
-    )
+    let parent = codes::parent_of(leaf);
+    is_fine(slots, n, faces, steps::step_of(parent, side))
 }
 
 // Whether every side that a leaf's last two digits ask for is fine. Most leaves ask for none.

@@ -8,18 +8,19 @@ use borrow.Author.Tests.{not-true, not-false}
 use lib.ListN.{getD, take}
 use Rattle.refusals.proofs.Answers.{tells-yes, tells-no}
 use Rattle.balance.specs.Tiled.{SidesFine}
-use Rattle.balance.proofs.Asked.{slot-tiled, rows-all, rows-at}
+use Rattle.balance.proofs.Tiled.{slot-tiled}
+use Rattle.balance.proofs.Rows.{rows-all, rows-at}
 use Rattle.balance.proofs.balanced.Statement.{statement}
 use Rattle.balance.proofs.balanced.Tie as tie
 
 abbrev Inv-loop : tie.InvT-loop
-Inv-loop slots n faces i₀ i = (i ≤ n) × ((k : ℕ) → k < i → SidesFine faces (take n slots) (getD slots k 0))
+Inv-loop slots n faces i₀ i = ((k : ℕ) → k < i → SidesFine faces (take n slots) (getD slots k 0)) × (i ≤ n)
 
 abbrev μ-loop : tie.MeasureT-loop
 μ-loop slots n faces i₀ i = n - i
 
 loop-holds : tie.Need-loop-holds Inv-loop μ-loop
-loop-holds c = (omega arith, below-none _)
+loop-holds c = (below-none _, omega arith)
 
 mul-sides-fine : tie.Need-mul-sides-fine Inv-loop μ-loop
 mul-sides-fine c = search needs
@@ -31,7 +32,7 @@ sides-fine-requires : tie.Need-sides-fine-requires Inv-loop μ-loop
 sides-fine-requires c κs =
     let s = c .before .before .before .before in
     let l = c .before .before .loop in
-    (s .pre .0, slot-tiled (s .args .faces) (s .args .slots .now) (s .args .n) (s .pre .0) (s .pre .1) (l .i) (omega arith))
+    (s .pre .0, slot-tiled (s .args .faces) (s .args .slots .now) (s .args .n) (s .pre .0) (l .i) (omega arith) (s .pre .1))
 
 returns : tie.Need-returns Inv-loop μ-loop
 returns c =
@@ -50,12 +51,12 @@ loop-less c = omega arith
 loop-again : tie.Need-loop-again Inv-loop μ-loop
 loop-again c =
     let l = c .before .before .before .before .loop in
-    (omega arith, below-more _ _ (l .inv .1) (c .before .sides-fine .ensures .yes (not-false _ (c .if1 .left))))
+    (below-more _ _ (l .inv .0) (c .before .sides-fine .ensures .yes (not-false _ (c .if1 .left))), omega arith)
 
 returns-2 : tie.Need-returns-2 Inv-loop μ-loop
 returns-2 c =
     let s = c .before .before .before in
-    tells-yes (rows-all (s .args .faces) (s .args .slots .now) (s .args .n) (s .pre .0) (λ k h. c .before .loop .inv .1 k (omega arith)))
+    tells-yes (rows-all (s .args .faces) (s .args .slots .now) (s .args .n) (s .pre .0) (λ k h. c .before .loop .inv .0 k (omega arith)))
 
 pub balanced-spec : {M : Type 1} → statement M
 balanced-spec =

@@ -2,17 +2,18 @@
 -- Assumes nothing.
 use mathlib.Core.List.{List}
 use mathlib.Core.Path.{_≡_, subst}
-use Prim.Native.Nat.{ℕ, _/_, _<_}
+use Prim.Native.Nat.{ℕ, _<_}
 use native.Mathlib.Omega.{arith}
 use borrow.Author.Needs.{needs}
 use lib.Dec.{eqb}
 use lib.ListN.{length, getD, take}
 use lib.Seq.{getD-take, length-take-le}
-use Rattle.refusals.proofs.Answers.{tells-no}
 use Rattle.refusals.specs.Answers.{Tells}
+use Rattle.refusals.proofs.Answers.{tells-no}
 use Rattle.codes.specs.Places.{place}
 use Rattle.soundness.specs.Inner.{Present}
-use Rattle.balance.proofs.Presence.{tiled-covers, present-tells, present-none}
+use Rattle.balance.proofs.Tiled.{tiled-covers}
+use Rattle.balance.proofs.Presence.{present-tells, present-none}
 use Rattle.balance.proofs.has_some.Statement.{statement}
 use Rattle.balance.proofs.has_some.Tie as tie
 
@@ -44,8 +45,9 @@ returns-2 c =
     let L : List ℕ = take (a .n) (a .slots .now) in
     let i = c .before .before .below .result in
     let b = c .before .before .below .ensures in
-    let h : i < length L = omega (arith, length-take-le (a .n) (a .slots .now) (s .pre .0), b .upto) in
-    let e : getD L i 0 ≡ getD (a .slots .now) i 0 = getD-take (a .n) (a .slots .now) i 0 (omega (arith, length-take-le (a .n) (a .slots .now) (s .pre .0))) in
+    let l = length-take-le (a .n) (a .slots .now) (s .pre .0) in
+    let h : i < length L = omega (arith, b .upto) in
+    let e : getD L i 0 ≡ getD (a .slots .now) i 0 = getD-take (a .n) (a .slots .now) i 0 (omega arith) in
     subst (λ (x : ℕ). Tells (eqb (place x) (place (a .code))) (Present L (a .code))) e (present-tells L (a .code) i (s .pre .1) b h)
 
 pub has-some-spec : {M : Type 1} → statement M

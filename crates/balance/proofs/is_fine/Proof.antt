@@ -23,7 +23,8 @@ has-some-requires c κs =
 returns-2 : tie.Need-returns-2
 returns-2 c =
     let a = c .before .before .before .before .args in
-    fine-tells (a .faces) (take (a .n) (a .slots .now)) (a .code) (c .before .before .in-faces .ensures .yes (not-false _ (c .before .if1 .left))) (c .has-some .ensures)
+    let here = c .before .before .in-faces .ensures .yes (not-false _ (c .before .if1 .left)) in
+    fine-tells (a .faces) (take (a .n) (a .slots .now)) (a .code) here (c .has-some .ensures)
 
 pub is-fine-spec : {M : Type 1} → statement M
 is-fine-spec = tie.close (tie.spec in-faces-requires returns has-some-requires returns-2)
