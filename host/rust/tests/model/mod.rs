@@ -11,3 +11,4 @@ pub mod corners;
 pub mod points;
 pub mod random;
 pub mod solids;
+pub mod tally;

@@ -42,6 +42,19 @@ impl Random {
         Cell { solid, face, digits }
     }
 
+    /// The number with one of its bits wrong.
+    pub fn with_a_wrong_bit(&mut self, number: u64) -> u64 {
+        number ^ (1 << self.below(64))
+    }
+
+    /// The code with another solid, face, path or depth in its place, well formed or not.
+    pub fn with_another_part(&mut self, code: u64) -> u64 {
+        let (place, room) = self.one_of(&[(62, 1 << 2), (57, 1 << 5), (5, 1 << 52), (0, 1 << 5)]);
+        let old = (code >> place) % room;
+        let new = self.below(room);
+        code - (old << place) + (new << place)
+    }
+
     /// A number at or near the places where a limit, a field or a machine word ends.
     pub fn number_at_an_edge(&mut self) -> u64 {
         let power = 1 << self.below(64);
