@@ -4,15 +4,12 @@ mod model;
 
 use model::codes::{self, cells_to_depth, Cell, Parts, DEEPEST, DEPTH, DIRECTION, FACE, SOLID, TAIL};
 use model::corners::{self, Corners, Weights};
-use model::random::Random;
+use model::random::{Random, ALONG};
 use model::solids::{self, SOLIDS};
 use model::steps::{self, DIRECTIONS};
 use model::tally::Tally;
 use std::collections::{HashMap, HashSet};
 use urdinhosa::Refusal;
-
-/// The digits of the two children that have a part of a side of their parent, by the side's direction.
-const ALONG: [[u64; 2]; 3] = [[0b00, 0b01], [0b00, 0b11], [0b01, 0b11]];
 
 /// The good directions, the first bad ones, and numbers whose low bits are a good direction.
 const GOOD_AND_BAD_DIRECTIONS: [u64; 13] =
@@ -47,31 +44,6 @@ fn neighbour(cell: &Cell, direction: u64) -> Cell {
 // ---------------------------------------------------------------------------------------------------------------------
 // Random cells
 
-fn digit_that_is_not_along(direction: u64, random: &mut Random) -> u64 {
-    loop {
-        let digit = random.below(4);
-        if !ALONG[direction as usize].contains(&digit) {
-            return digit;
-        }
-    }
-}
-
-/// A cell of any solid and face of which exactly so many last digits are along a side.
-fn cell_with_run(direction: u64, depth: u64, run: u64, random: &mut Random) -> Cell {
-    let mut cell = random.cell_of_depth(depth);
-    let (before, along) = cell.digits.split_at_mut((depth - run) as usize);
-    along.iter_mut().for_each(|digit| *digit = random.one_of(&ALONG[direction as usize]));
-    if let Some(last) = before.last_mut() {
-        *last = digit_that_is_not_along(direction, random);
-    }
-    cell
-}
-
-/// A cell at the side of its face.
-fn cell_at_seam(direction: u64, depth: u64, random: &mut Random) -> Cell {
-    cell_with_run(direction, depth, depth, random)
-}
-
 /// A cell of any solid, face and depth and a direction; the same number of each kind: anywhere on the face, at the side
 /// of the face, and with a run of digits along the side that ends somewhere, or just before the first digit.
 fn random_step(random: &mut Random) -> (Cell, u64) {
@@ -83,7 +55,7 @@ fn random_step(random: &mut Random) -> (Cell, u64) {
         2 => random.below(depth + 1),
         _ => depth.saturating_sub(1),
     };
-    (cell_with_run(direction, depth, run, random), direction)
+    (random.cell_with_run(direction, depth, run), direction)
 }
 
 // ---------------------------------------------------------------------------------------------------------------------
@@ -164,7 +136,7 @@ fn random_cells_at_each_seam_and_depth_step_as_by_the_model() {
         let mut seams = HashSet::new();
         for direction in DIRECTIONS {
             for _ in 0..10_000 {
-                let cell = cell_at_seam(direction, depth, &mut random);
+                let cell = random.cell_at_side(direction, depth);
                 assert_eq!(compare_step(codes::code_of(&cell), direction), 0);
                 assert_ne!(neighbour(&cell, direction).face, cell.face, "{:?} in direction {}", cell, direction);
                 seams.insert((cell.solid, cell.face, direction));
@@ -180,7 +152,7 @@ fn runs_of_digits_along_the_side_that_stop_just_before_the_first_digit_step_as_b
     for depth in 1..=DEEPEST {
         for direction in DIRECTIONS {
             for _ in 0..6_000 {
-                let cell = cell_with_run(direction, depth, depth - 1, &mut random);
+                let cell = random.cell_with_run(direction, depth, depth - 1);
                 assert_eq!(compare_step(codes::code_of(&cell), direction), 0);
                 let across = neighbour(&cell, direction);
                 assert_eq!(across.face, cell.face, "{:?} in direction {}", cell, direction);
@@ -197,7 +169,7 @@ fn runs_of_every_length_at_every_depth_step_as_by_the_model() {
         for run in 0..=depth {
             for direction in DIRECTIONS {
                 for _ in 0..600 {
-                    let cell = cell_with_run(direction, depth, run, &mut random);
+                    let cell = random.cell_with_run(direction, depth, run);
                     assert_eq!(compare_step(codes::code_of(&cell), direction), 0);
                 }
             }
