@@ -44,6 +44,7 @@ static void check_numbers_of_refusals(void)
     check("the number of FACE", URDINHOSA_FACE, 2);
     check("the number of DEPTH", URDINHOSA_DEPTH, 3);
     check("the number of TAIL", URDINHOSA_TAIL, 4);
+    check("the number of DIRECTION", URDINHOSA_DIRECTION, 5);
     check("the number of DIGIT", URDINHOSA_DIGIT, 6);
     check("the number of DEEP", URDINHOSA_DEEP, 7);
     check("the number of ROOT", URDINHOSA_ROOT, 8);
@@ -129,6 +130,33 @@ static void check_child(void)
     check("child: of solid 0, digit 4", urdinhosa_child(UNKNOWN_SOLID, 4), 1);
 }
 
+/* Step and walk, which answer alike. */
+static void check_step(const char *what, uint64_t code, uint64_t direction, uint64_t expected)
+{
+    char call[80];
+    snprintf(call, sizeof call, "step: %s", what);
+    check(call, urdinhosa_step(code, direction), expected);
+    snprintf(call, sizeof call, "walk: %s", what);
+    check(call, urdinhosa_walk(code, direction), expected);
+}
+
+static void check_steps(void)
+{
+    check_step("right within a face (case 1)", UINT64_C(0xce96000000000006), 1, UINT64_C(0xce98a00000000006));
+    check_step("left, back again", UINT64_C(0xce98a00000000006), 0, UINT64_C(0xce96000000000006));
+    check_step("vertical over a seam (case 4)", UINT64_C(0x4080000000000001), 2, UINT64_C(0x4580000000000001));
+    check_step("right over a seam (case 5)", UINT64_C(0x4780000000000001), 1, UINT64_C(0x4000000000000001));
+    check_step("right from a face (case 6)", UINT64_C(0x8600000000000000), 1, UINT64_C(0x8000000000000000));
+    check_step("left over a seam at depth 26", DEEPEST_CELL, 0, UINT64_C(0x47fffffffffffffa));
+    check_step("direction 3", FACE_0_OF_TETRAHEDRON, 3, 5);
+    check_step("direction 256", FACE_0_OF_TETRAHEDRON, 256, 5);
+    check_step("code 0 (case 7)", 0, 0, 1);
+    check_step("of solid 0, direction 3", UNKNOWN_SOLID, 3, 1);
+    check_step("octahedron face 8, direction 3", UINT64_C(0x9000000000000000), 3, 2);
+    check_step("depth 27, direction 3", UINT64_C(0x400000000000001b), 3, 3);
+    check_step("of a code with a tail, direction 3", BIT_AFTER_LAST_DIGIT, 3, 4);
+}
+
 static void check_locate(void)
 {
     check("locate: digit 00 (case 13)", urdinhosa_locate(1, 0, HALF, HALF, 0, 1), UINT64_C(0x4000000000000001));
@@ -151,6 +179,7 @@ int main(void)
     check_unpacks();
     check_parent();
     check_child();
+    check_steps();
     check_locate();
     printf("%u passed, %u failed\n", passed, failed);
     return failed == 0 ? 0 : 1;

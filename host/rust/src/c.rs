@@ -20,6 +20,12 @@ extern "C" {
     /// The child's code, or else the number of a refusal.
     pub fn urdinhosa_child(code: u64, digit: u64) -> u64;
 
+    /// The code of the triangle across a side, or else the number of a refusal.
+    pub fn urdinhosa_step(code: u64, direction: u64) -> u64;
+
+    /// The same answer as `urdinhosa_step`, worked out digit by digit.
+    pub fn urdinhosa_walk(code: u64, direction: u64) -> u64;
+
     /// The code of the cell in which a point is located, or else the number of a refusal.
     pub fn urdinhosa_locate(solid: u64, face: u64, t: u64, l: u64, r: u64, depth: u64) -> u64;
 }

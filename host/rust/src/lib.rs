@@ -8,6 +8,7 @@
 //! list.
 //!
 //! * [`pack`], [`unpack`], [`parent`], [`child`]: codes and their parts
+//! * [`step`], [`walk`]: the triangle across a side, by two methods
 //! * [`locate`]: the cell in which a point lies
 //! * [`c`]: the calls as C has them
 
@@ -17,7 +18,9 @@ pub mod c;
 mod codes;
 mod points;
 mod refusal;
+mod steps;
 
 pub use codes::{child, pack, parent, unpack, Fields};
 pub use points::locate;
 pub use refusal::Refusal;
+pub use steps::{step, walk};

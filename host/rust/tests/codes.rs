@@ -2,10 +2,11 @@
 
 mod model;
 
-use model::codes::{self, Cell, Parts, DEEPEST, DEPTH, DIGIT, FACE, SOLID, TAIL};
+use model::codes::{self, cells_to_depth, Parts, DEEPEST, DEPTH, DIGIT, FACE, SOLID, TAIL};
 use model::corners::{self, Corners};
 use model::random::Random;
 use model::solids::{self, SOLIDS};
+use model::tally::Tally;
 use std::collections::{HashMap, HashSet};
 use urdinhosa::{c, Refusal};
 
@@ -86,26 +87,6 @@ fn compare_pack(parts: Parts) -> u64 {
     let expected = codes::pack(parts);
     assert_eq!(pack(parts), expected, "pack of {:?}", parts);
     expected.err().unwrap_or(0)
-}
-
-/// How often each number was the answer, so that a random test can show that it met every case.
-struct Tally([u64; 10]);
-
-impl Tally {
-    fn of(numbers: impl IntoIterator<Item = u64>) -> Tally {
-        let mut counts = [0; 10];
-        numbers.into_iter().for_each(|number| counts[number as usize] += 1);
-        Tally(counts)
-    }
-
-    fn assert_each_at_least(&self, times: u64, numbers: std::ops::RangeInclusive<usize>) {
-        let often = numbers.clone().all(|number| self.0[number] >= times);
-        assert!(often, "numbers {:?} not met {} times each, but {:?}", numbers, times, self.0);
-    }
-}
-
-fn cells_to_depth(deepest: u64) -> impl Iterator<Item = Cell> {
-    (0..=deepest).flat_map(codes::cells_of_depth)
 }
 
 // ---------------------------------------------------------------------------------------------------------------------
@@ -265,15 +246,11 @@ fn compare_on_random_numbers(count: u64, seed: u64, rarest: u64, number: impl Fn
     Tally::of(numbers).assert_each_at_least(rarest, 0..=4);
 }
 
-fn flip_a_bit(code: u64, random: &mut Random) -> u64 {
-    code ^ (1 << random.below(64))
-}
-
 #[test]
 fn codes_with_one_wrong_bit_are_answered_as_by_the_model() {
     compare_on_random_numbers(600_000, 3, 1_000, |random| {
         let code = codes::code_of(&random.cell());
-        flip_a_bit(code, random)
+        random.with_a_wrong_bit(code)
     });
 }
 
@@ -281,24 +258,16 @@ fn codes_with_one_wrong_bit_are_answered_as_by_the_model() {
 fn codes_with_two_wrong_bits_are_answered_as_by_the_model() {
     compare_on_random_numbers(600_000, 4, 1_000, |random| {
         let code = codes::code_of(&random.cell());
-        let once = flip_a_bit(code, random);
-        flip_a_bit(once, random)
+        let once = random.with_a_wrong_bit(code);
+        random.with_a_wrong_bit(once)
     });
-}
-
-/// The code with another solid, face, path or depth in its place.
-fn with_another_part(code: u64, random: &mut Random) -> u64 {
-    let (place, room) = random.one_of(&[(62, 1 << 2), (57, 1 << 5), (5, 1 << 52), (0, 1 << 5)]);
-    let old = (code >> place) % room;
-    let new = random.below(room);
-    code - (old << place) + (new << place)
 }
 
 #[test]
 fn codes_with_one_wrong_part_are_answered_as_by_the_model() {
     compare_on_random_numbers(600_000, 5, 1_000, |random| {
         let code = codes::code_of(&random.cell());
-        with_another_part(code, random)
+        random.with_another_part(code)
     });
 }
 
@@ -306,8 +275,8 @@ fn codes_with_one_wrong_part_are_answered_as_by_the_model() {
 fn codes_with_two_wrong_parts_are_answered_as_by_the_model() {
     compare_on_random_numbers(600_000, 6, 1_000, |random| {
         let code = codes::code_of(&random.cell());
-        let once = with_another_part(code, random);
-        with_another_part(once, random)
+        let once = random.with_another_part(code);
+        random.with_another_part(once)
     });
 }
 

@@ -6,6 +6,7 @@ pub const SOLID: u64 = 1;
 pub const FACE: u64 = 2;
 pub const DEPTH: u64 = 3;
 pub const TAIL: u64 = 4;
+pub const DIRECTION: u64 = 5;
 pub const DIGIT: u64 = 6;
 pub const DEEP: u64 = 7;
 pub const ROOT: u64 = 8;
@@ -147,4 +148,8 @@ fn with_each_digit_after(digits: &Vec<u64>) -> Vec<Vec<u64>> {
 pub fn cells_of_depth(depth: u64) -> Vec<Cell> {
     let of_solid = |solid| (0..solids::number_of_faces(solid)).flat_map(move |face| cells_of_face(solid, face, depth));
     solids::SOLIDS.into_iter().flat_map(of_solid).collect()
+}
+
+pub fn cells_to_depth(deepest: u64) -> impl Iterator<Item = Cell> {
+    (0..=deepest).flat_map(cells_of_depth)
 }

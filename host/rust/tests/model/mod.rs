@@ -11,3 +11,5 @@ pub mod corners;
 pub mod points;
 pub mod random;
 pub mod solids;
+pub mod steps;
+pub mod tally;

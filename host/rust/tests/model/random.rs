@@ -3,6 +3,9 @@
 use super::codes::{Cell, DEEPEST};
 use super::solids;
 
+/// The digits of the two children that have a part of a side of their parent, by the side's direction.
+pub const ALONG: [[u64; 2]; 3] = [[0b00, 0b01], [0b00, 0b11], [0b01, 0b11]];
+
 pub struct Random {
     state: u64,
 }
@@ -40,6 +43,44 @@ impl Random {
         let face = self.below(solids::number_of_faces(solid));
         let digits = (0..depth).map(|_| self.below(4)).collect();
         Cell { solid, face, digits }
+    }
+
+    /// A cell of any solid and face, at a side of its face: all its digits are along that side.
+    pub fn cell_at_side(&mut self, direction: u64, depth: u64) -> Cell {
+        self.cell_with_run(direction, depth, depth)
+    }
+
+    /// A cell of any solid and face of which exactly so many last digits are along a side.
+    pub fn cell_with_run(&mut self, direction: u64, depth: u64, run: u64) -> Cell {
+        let mut cell = self.cell_of_depth(depth);
+        let (before, along) = cell.digits.split_at_mut((depth - run) as usize);
+        along.iter_mut().for_each(|digit| *digit = self.one_of(&ALONG[direction as usize]));
+        if let Some(last) = before.last_mut() {
+            *last = self.digit_that_is_not_along(direction);
+        }
+        cell
+    }
+
+    fn digit_that_is_not_along(&mut self, direction: u64) -> u64 {
+        loop {
+            let digit = self.below(4);
+            if !ALONG[direction as usize].contains(&digit) {
+                return digit;
+            }
+        }
+    }
+
+    /// The number with one of its bits wrong.
+    pub fn with_a_wrong_bit(&mut self, number: u64) -> u64 {
+        number ^ (1 << self.below(64))
+    }
+
+    /// The code with another solid, face, path or depth in its place, well formed or not.
+    pub fn with_another_part(&mut self, code: u64) -> u64 {
+        let (place, room) = self.one_of(&[(62, 1 << 2), (57, 1 << 5), (5, 1 << 52), (0, 1 << 5)]);
+        let old = (code >> place) % room;
+        let new = self.below(room);
+        code - (old << place) + (new << place)
     }
 
     /// A number at or near the places where a limit, a field or a machine word ends.
