@@ -1,2 +1,4 @@
+pub mod Bounded
 pub mod Faults
+pub mod Found
 pub mod Held
