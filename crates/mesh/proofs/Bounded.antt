@@ -104,7 +104,7 @@ bounded-upto xs c a m B = go m refl
 
 -- what is said of another answer, by the answer for the bounds
 
-need-as : {P U V W Z : Type 0} → (U → V) → (W → Z) → ((P → ⊥) × U) ⊎ (P × W) → ((P → ⊥) × V) ⊎ (P × Z)
+need-as : {P A B X Y : Type 0} → (A → B) → (X → Y) → ((P → ⊥) × A) ⊎ (P × X) → ((P → ⊥) × B) ⊎ (P × Y)
 need-as f g (inl h) = inl (h .0, f (h .1))
 need-as f g (inr h) = inr (h .0, g (h .1))
 
