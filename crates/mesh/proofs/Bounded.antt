@@ -1,16 +1,16 @@
 -- The run under a cell of a sound mesh: where it starts, how many leaves it has, and what an answer for that says to its callers.
 -- Assumes nothing.
-use mathlib.Core.Bool.{Bool, true, false, cond}
+use mathlib.Core.Bool.{Bool, cond}
 use mathlib.Core.List.{List, [], _∷_}
 use mathlib.Core.Logic.{_⊎_, inl, inr}
 use mathlib.Core.Path.{_≡_, refl, ap, sym, _∙_, subst}
 use Prim.Native.Nat.{ℕ, zero, suc, _+_, _-_, _<_, _≤_}
 use native.Mathlib.Omega.{arith}
-use lib.Dec.{eqb, ltb}
 use lib.ListN.{length, take, drop, length-drop}
 use lib.Seq.{length-take-le}
 use borrow.Author.Tests.{lt-ltb, le-ltb, eq-eqb, ne-eqb}
 use Rattle.refusals.specs.Refusals.{BUFFER, MESH}
+use Rattle.refusals.proofs.Refusals.{met}
 use Rattle.codes.specs.Codes.{codeFaults}
 use Rattle.codes.proofs.Faults.{code-passed}
 use Rattle.soundness.specs.Leaves.{leaves}
@@ -21,7 +21,6 @@ use Rattle.leaves.specs.declared.Run.{Run}
 use Rattle.mesh.specs.Answers.{Part, part, noBounds}
 use Rattle.mesh.specs.Calls.{Held, meshFaults, comeBefore, startOf, Bounded, boundsEnd, BoundsOf}
 use Rattle.mesh.proofs.Held.{held-take, held-upto}
-use Rattle.mesh.proofs.Faults.{mesh-passed}
 
 below-before : (L : List ℕ) (c r : ℕ) → Below L c r → r ≡ comeBefore c L
 below-before [] c r B = omega (arith, B .upto)
@@ -68,22 +67,12 @@ module _ (xs : List ℕ) (n c : ℕ) (h : Held xs n) (r : Run) (R : RunOf xs n c
         holds = run-holds;
       }
 
--- an answer that refuses by no number tells of a run, which lies in the slots
-pub bounds-passed : (Q : ℕ) (xs : List ℕ) (c a m : ℕ) → BoundsOf Q xs c (part a m) → Bounded xs c (part a m)
-bounds-passed Q xs c a m h =
-    let n : (k : ℕ) → 0 < k → part a m ≡ noBounds k → ⊥ = λ k l e. omega (arith, ap (λ (p : Part). p .number) e) in
-    code-passed noBounds c (boundsEnd xs c) n (mesh-passed noBounds Q xs (codeFaults noBounds c (boundsEnd xs c)) n h .1) .1
-
-pub bounds-short : (Q : ℕ) (xs : List ℕ) (c a m : ℕ) → BoundsOf Q xs c (part a m) → length xs ≤ 8192
-bounds-short Q xs c a m (inl h) = absurd (omega (arith, ap (λ (p : Part). p .number) (h .1)))
-bounds-short Q xs c a m (inr h) = h .0
-
 length-take-most : (i : ℕ) (l : List ℕ) → length (take i l) ≤ length l
 length-take-most zero l = omega arith
 length-take-most (suc i) [] = omega arith
 length-take-most (suc i) (x ∷ l) = omega (arith, length-take-most i l)
 
-pub bounded-upto : (xs : List ℕ) (c a m : ℕ) → Bounded xs c (part a m) → a + m ≤ length xs
+bounded-upto : (xs : List ℕ) (c a m : ℕ) → Bounded xs c (part a m) → a + m ≤ length xs
 bounded-upto xs c a m B = go m refl
   where
     count : m ≡ length (under c (leaves xs))
@@ -101,6 +90,14 @@ bounded-upto xs c a m B = go m refl
         let s : startOf c (leaves xs) ≡ 0 = ap (λ (t : Bool). cond t 0 (comeBefore c (leaves xs))) (eq-eqb (length (under c (leaves xs))) 0 z) in
         omega (arith, start)
     go (suc k) e = omega (arith, within)
+
+-- an answer that refuses by no number tells of a run, which lies in the slots
+pub bounds-upto : (Q : ℕ) (xs : List ℕ) (c a m : ℕ) → BoundsOf Q xs c (part a m) → (length xs ≤ 8192) × (a + m ≤ length xs)
+bounds-upto Q xs c a m h =
+    let n : (k : ℕ) → 0 < k → part a m ≡ noBounds k → ⊥ = λ k l e. omega (arith, ap (λ (p : Part). p .number) e) in
+    let l = met (n BUFFER (omega arith)) h in
+    let s = met (n MESH (omega arith)) (l .1) in
+    (l .0, bounded-upto xs c a m (code-passed noBounds c (boundsEnd xs c) n (s .1) .1))
 
 -- what is said of another answer, by the answer for the bounds
 

@@ -1,6 +1,5 @@
 -- A number that is not 0 is handed on; `run_of` gives the run, which is answered at 0 when it is empty.
 -- Assumes nothing.
-use native.Mathlib.Omega.{arith}
 use borrow.Author.Needs.{needs}
 use Rattle.codes.proofs.Faults.{code-refused, code-on, code-is-formed}
 use Rattle.mesh.specs.Answers.{noBounds}
@@ -21,9 +20,11 @@ returns c =
 run-of-requires : tie.Need-run-of-requires
 run-of-requires c κs =
     let s = c .before .before .before in
-    let a = s .args in
-    (held-upto (a .slots .now) (a .n) (s .pre), held-covered (a .slots .now) (a .n) (s .pre),
-    code-is-formed (a .cell) (c .before .check .ensures) (c .if1 .left))
+    let a = s .args in (
+      held-upto (a .slots .now) (a .n) (s .pre),
+      held-covered (a .slots .now) (a .n) (s .pre),
+      code-is-formed (a .cell) (c .before .check .ensures) (c .if1 .left),
+    )
 
 returns-2 : tie.Need-returns-2
 returns-2 c =
