@@ -4,7 +4,8 @@
 --   Filled xs n        == n leaves stand in the slots xs, ascending, and then only zeros
 --   LeafAt xs n code r == r tells where the code stands among the leaves, or that it is none of them
 --   FourAt xs n cell r == r tells where the children of the cell stand side by side, or that not all of them are leaves
---   RunOf xs n cell r  == from r .from on, up to r .to, stand the leaves that are the cell or lie inside it
+--   RunOf xs n cell r  == from r .from on, up to r .to, stand the leaves that are the cell or lie inside it; before stand those
+--                         below the cell
 --
 -- Assumes nothing.
 use mathlib.Core.List.{List}
@@ -15,6 +16,7 @@ use Rattle.codes.specs.Places.{childCode}
 use Rattle.soundness.specs.Leaves.{Leaf, Ascends, leaves, pad}
 use Rattle.soundness.specs.Soundness.{Covers}
 use Rattle.soundness.specs.Changes.{under}
+use Rattle.soundness.specs.Inner.{Below}
 use Rattle.leaves.specs.declared.Found.{Found}
 use Rattle.leaves.specs.declared.Found.the-variants.{At, Nothing}
 use Rattle.leaves.specs.declared.Run.{Run}
@@ -43,4 +45,5 @@ FourAt xs n cell Nothing = ((q : ℕ) → q < 4 → Leaf (take n xs) (childCode 
 pub record RunOf (xs : List ℕ) (n cell : ℕ) (r : Run) : Type 0 where
   pub order : r .from ≤ r .to
   pub upto : r .to ≤ n
+  pub first : Below (take n xs) cell (r .from)
   pub part : take (r .to - r .from) (drop (r .from) xs) ≡ under cell (take n xs)

@@ -46,7 +46,7 @@ returns c =
     let b = subst (λ (k : ℕ). Below (take (a .n) (a .slots .now)) k (c .below2 .result)) (p .0) (c .below2 .ensures) in
     let r = run-is (a .slots .now) (a .n) (a .cell) (c .before .below .result) (c .below2 .result) (s .pre .0) (s .pre .1) (s .pre .2)
     (c .before .below .ensures) b in
-    record { order = r .0; upto = r .1; part = r .2 }
+    record { order = r .0; upto = r .1; first = c .before .below .ensures; part = r .2 }
 
 pub run-of-spec : {M : Type 1} → statement M
 run-of-spec =

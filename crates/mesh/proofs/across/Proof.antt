@@ -1,42 +1,58 @@
+-- The examination tells which of 10 and 11 refuses, or that the inner function may be asked.
+-- Assumes nothing.
+use mathlib.Core.Path.{subst}
 use borrow.Author.Needs.{needs}
+use Rattle.codes.specs.Codes.{codeFaults}
+use Rattle.examine.specs.Examined.{Examined, wholeOf}
+use Rattle.mesh.specs.Answers.{notCrossed}
+use Rattle.mesh.specs.Calls.{acrossEnd}
+use Rattle.mesh.proofs.Faults.{too-long, unsound, goes-on}
 use Rattle.mesh.proofs.across.Statement.{statement}
 use Rattle.mesh.proofs.across.Tie as tie
-use Rattle.mesh.proofs.across.Reads as reads
-use Rattle.mesh.proofs.across.Lts as lts
-use Rattle.examine.proofs.examine.Reads as examine-reads
-use Rattle.mesh.proofs.across_sound.Reads as across-sound-reads
 
--- src/lib.rt:201:11
 examine-requires : tie.Need-examine-requires
 examine-requires c κs = search needs
 
--- src/lib.rt:202:23
 enum-told : tie.Need-enum-told
 enum-told c = search needs
 
--- src/lib.rt:203:26
 enum-told-2 : tie.Need-enum-told-2
 enum-told-2 c = search needs
 
--- src/lib.rt:204:22
 enum-known-n : tie.Need-enum-known-n
 enum-known-n c = search needs
 
--- src/lib.rt:204:28
 across-sound-requires : tie.Need-across-sound-requires
-across-sound-requires c κs = ?
+across-sound-requires c κs =
+    let b = c .before .before .before in
+    let xs = b .before .before .args .slots .now in
+    let e = subst (Examined (wholeOf xs) xs) (c .before .n .given .1) (b .examine .ensures) in
+    record { sound = e .1; count = e .2 }
 
--- src/lib.rt:198:1
 returns : tie.Need-returns
-returns c = ?
+returns c =
+    let b = c .before .before in
+    let a = b .before .before .args in
+    let xs = a .slots .now in
+    too-long notCrossed (wholeOf xs) xs (codeFaults notCrossed (a .leaf) (acrossEnd xs (a .leaf) (a .direction)))
+    (subst (Examined (wholeOf xs) xs) (c .enum-told .given .1) (b .examine .ensures))
 
--- src/lib.rt:198:1
 returns-2 : tie.Need-returns-2
-returns-2 c = ?
+returns-2 c =
+    let b = c .before .before in
+    let a = b .before .before .args in
+    let xs = a .slots .now in
+    unsound notCrossed (wholeOf xs) xs (codeFaults notCrossed (a .leaf) (acrossEnd xs (a .leaf) (a .direction)))
+    (subst (Examined (wholeOf xs) xs) (c .enum-told2 .given .1) (b .examine .ensures))
 
--- src/lib.rt:198:1
 returns-3 : tie.Need-returns-3
-returns-3 c = ?
+returns-3 c =
+    let k = c .before in
+    let b = k .before .before .before in
+    let a = b .before .before .args in
+    let xs = a .slots .now in
+    let e = subst (Examined (wholeOf xs) xs) (k .before .n .given .1) (b .examine .ensures) in
+    goes-on notCrossed (wholeOf xs) xs (codeFaults notCrossed (a .leaf) (acrossEnd xs (a .leaf) (a .direction))) (e .0) (e .1) (c .across-sound .ensures)
 
 pub across-spec : {M : Type 1} → statement M
 across-spec =

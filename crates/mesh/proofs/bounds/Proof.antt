@@ -1,42 +1,58 @@
+-- The examination tells which of 10 and 11 refuses, or that the inner function may be asked.
+-- Assumes nothing.
+use mathlib.Core.Path.{subst}
 use borrow.Author.Needs.{needs}
+use Rattle.codes.specs.Codes.{codeFaults}
+use Rattle.examine.specs.Examined.{Examined, wholeOf}
+use Rattle.mesh.specs.Answers.{noBounds}
+use Rattle.mesh.specs.Calls.{boundsEnd}
+use Rattle.mesh.proofs.Faults.{too-long, unsound, goes-on}
 use Rattle.mesh.proofs.bounds.Statement.{statement}
 use Rattle.mesh.proofs.bounds.Tie as tie
-use Rattle.mesh.proofs.bounds.Reads as reads
-use Rattle.mesh.proofs.bounds.Lts as lts
-use Rattle.examine.proofs.examine.Reads as examine-reads
-use Rattle.mesh.proofs.bounds_sound.Reads as bounds-sound-reads
 
--- src/lib.rt:229:11
 examine-requires : tie.Need-examine-requires
 examine-requires c κs = search needs
 
--- src/lib.rt:230:23
 enum-told : tie.Need-enum-told
 enum-told c = search needs
 
--- src/lib.rt:231:26
 enum-told-2 : tie.Need-enum-told-2
 enum-told-2 c = search needs
 
--- src/lib.rt:232:22
 enum-known-n : tie.Need-enum-known-n
 enum-known-n c = search needs
 
--- src/lib.rt:232:28
 bounds-sound-requires : tie.Need-bounds-sound-requires
-bounds-sound-requires c κs = ?
+bounds-sound-requires c κs =
+    let b = c .before .before .before in
+    let xs = b .before .before .args .slots .now in
+    let e = subst (Examined (wholeOf xs) xs) (c .before .n .given .1) (b .examine .ensures) in
+    record { sound = e .1; count = e .2 }
 
--- src/lib.rt:226:1
 returns : tie.Need-returns
-returns c = ?
+returns c =
+    let b = c .before .before in
+    let a = b .before .before .args in
+    let xs = a .slots .now in
+    too-long noBounds (wholeOf xs) xs (codeFaults noBounds (a .cell) (boundsEnd xs (a .cell)))
+    (subst (Examined (wholeOf xs) xs) (c .enum-told .given .1) (b .examine .ensures))
 
--- src/lib.rt:226:1
 returns-2 : tie.Need-returns-2
-returns-2 c = ?
+returns-2 c =
+    let b = c .before .before in
+    let a = b .before .before .args in
+    let xs = a .slots .now in
+    unsound noBounds (wholeOf xs) xs (codeFaults noBounds (a .cell) (boundsEnd xs (a .cell)))
+    (subst (Examined (wholeOf xs) xs) (c .enum-told2 .given .1) (b .examine .ensures))
 
--- src/lib.rt:226:1
 returns-3 : tie.Need-returns-3
-returns-3 c = ?
+returns-3 c =
+    let k = c .before in
+    let b = k .before .before .before in
+    let a = b .before .before .args in
+    let xs = a .slots .now in
+    let e = subst (Examined (wholeOf xs) xs) (k .before .n .given .1) (b .examine .ensures) in
+    goes-on noBounds (wholeOf xs) xs (codeFaults noBounds (a .cell) (boundsEnd xs (a .cell))) (e .0) (e .1) (c .bounds-sound .ensures)
 
 pub bounds-spec : {M : Type 1} → statement M
 bounds-spec =

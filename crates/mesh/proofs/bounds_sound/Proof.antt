@@ -1,35 +1,49 @@
+-- A number that is not 0 is handed on; `run_of` gives the run, which is answered at 0 when it is empty.
+-- Assumes nothing.
 use borrow.Author.Needs.{needs}
+use Rattle.codes.proofs.Faults.{code-refused, code-on, code-is-formed}
+use Rattle.mesh.specs.Answers.{noBounds}
+use Rattle.mesh.specs.Calls.{boundsEnd}
+use Rattle.mesh.proofs.Held.{held-upto, held-covered}
+use Rattle.mesh.proofs.Bounded.{empty-run, some-run}
 use Rattle.mesh.proofs.bounds_sound.Statement.{statement}
 use Rattle.mesh.proofs.bounds_sound.Tie as tie
-use Rattle.mesh.proofs.bounds_sound.Reads as reads
-use Rattle.mesh.proofs.bounds_sound.Lts as lts
-use Rattle.codes.proofs.check.Reads as check-reads
-use Rattle.leaves.proofs.run_of.Reads as run-of-reads
 
--- src/lib.rt:212:9
 check-requires : tie.Need-check-requires
 check-requires c κs = search needs
 
--- src/lib.rt:214:9
 returns : tie.Need-returns
-returns c = ?
+returns c =
+    let a = c .before .before .before .args in
+    code-refused noBounds (a .cell) (boundsEnd (a .slots .now) (a .cell)) (c .before .check .ensures) (c .if1 .taken)
 
--- src/lib.rt:216:9
 run-of-requires : tie.Need-run-of-requires
-run-of-requires c κs = ?
+run-of-requires c κs =
+    let s = c .before .before .before in
+    let a = s .args in (
+      held-upto (a .slots .now) (a .n) (s .pre),
+      held-covered (a .slots .now) (a .n) (s .pre),
+      code-is-formed (a .cell) (c .before .check .ensures) (c .if1 .left),
+    )
 
--- src/lib.rt:220:9
 returns-2 : tie.Need-returns-2
-returns-2 c = ?
+returns-2 c =
+    let b = c .before .before in
+    let s = b .before .before .before in
+    let a = s .args in
+    code-on noBounds (a .cell) (boundsEnd (a .slots .now) (a .cell)) (code-is-formed (a .cell) (b .before .check .ensures) (b .if1 .left))
+    (empty-run (a .slots .now) (a .n) (a .cell) (s .pre) (c .before .run-of .result) (c .before .run-of .ensures) (c .if2 .taken))
 
--- src/lib.rt:222:24
 sub-t9 : tie.Need-sub-t9
 sub-t9 c = search needs
 
--- src/lib.rt:208:1
 returns-3 : tie.Need-returns-3
-returns-3 c = ?
+returns-3 c =
+    let b = c .before .before in
+    let s = b .before .before .before in
+    let a = s .args in
+    code-on noBounds (a .cell) (boundsEnd (a .slots .now) (a .cell)) (code-is-formed (a .cell) (b .before .check .ensures) (b .if1 .left))
+    (some-run (a .slots .now) (a .n) (a .cell) (s .pre) (c .before .run-of .result) (c .before .run-of .ensures) (c .if2 .left))
 
 pub bounds-sound-spec : {M : Type 1} → statement M
-bounds-sound-spec =
-    tie.close (tie.spec check-requires returns run-of-requires returns-2 sub-t9 returns-3)
+bounds-sound-spec = tie.close (tie.spec check-requires returns run-of-requires returns-2 sub-t9 returns-3)
