@@ -37,16 +37,20 @@ module _ (xs : List ℕ) (n : ℕ) (h : Held xs n) where
   pub held-filled : Filled xs n
   held-filled = record { form = h .sound .form; count = sym (h .count); ascend = h .sound .mesh .covers .ascend }
 
-  pub held-at : (i : ℕ) → i < n → Leaf (leaves xs) (getD xs i 0)
-  held-at i l =
+  -- what a search among the leaves tells
+  pub found-leaf : (i a : ℕ) → i < n → getD xs i 0 ≡ a → Leaf (leaves xs) a
+  found-leaf i a l e =
       let m = leaf-at (take n xs) i (omega (arith, l, length-take-le n xs held-upto)) in
-      subst (λ (L : List ℕ). Leaf L (getD xs i 0)) held-take (subst (Leaf (take n xs)) (getD-take n xs i 0 l) m)
+      subst (λ (L : List ℕ). Leaf L a) held-take (subst (Leaf (take n xs)) (getD-take n xs i 0 l ∙ e) m)
+
+  pub found-none : (a : ℕ) → (Leaf (take n xs) a → ⊥) → Leaf (leaves xs) a → ⊥
+  found-none a f m = f (subst (λ (L : List ℕ). Leaf L a) (sym held-take) m)
 
   pub held-leaf : (a : ℕ) → Leaf (leaves xs) a → InMesh (take n xs) (wholeOf xs) a
   held-leaf a m = record { solid = firstSolid xs; mesh = held-mesh; leaf = subst (λ (L : List ℕ). Leaf L a) (sym held-take) m }
 
   pub four-leaves : (i c : ℕ) → i + 4 ≤ n → ((q : ℕ) → q < 4 → getD xs (i + q) 0 ≡ childCode c q) → (q : ℕ) → q < 4 → Leaf (leaves xs) (childCode c q)
-  four-leaves i c l f q k = subst (Leaf (leaves xs)) (f q k) (held-at (i + q) (omega arith))
+  four-leaves i c l f q k = found-leaf (i + q) (childCode c q) (omega arith) (f q k)
 
   pub held-four : (c : ℕ) → Code c → ((q : ℕ) → q < 4 → Leaf (leaves xs) (childCode c q)) → FourIn (take n xs) (wholeOf xs) c
   held-four c k f = record {

@@ -13,8 +13,7 @@ use Rattle.leaves.specs.Leaves.{LeafAt}
 use Rattle.sides.specs.Sides.{InMesh}
 use Rattle.mesh.specs.Answers.{notCrossed}
 use Rattle.mesh.specs.Calls.{acrossEnd}
-use Rattle.mesh.proofs.Held.{held-take, held-upto, held-ascend, held-leaf}
-use Rattle.mesh.proofs.Found.{found-leaf, found-none}
+use Rattle.mesh.proofs.Held.{held-take, held-upto, held-ascend, held-leaf, found-leaf, found-none}
 use Rattle.mesh.proofs.across_sound.Statement.{statement}
 use Rattle.mesh.proofs.across_sound.Tie as tie
 
@@ -56,7 +55,7 @@ side-of-requires c κs =
     let a = s .args in
     let xs = a .slots .now in
     let f = subst (LeafAt xs (a .n) (a .leaf)) (t .enum-told2 .given .1) (t .before .before .leaf-at .ensures) in
-    let m = held-leaf xs (a .n) (s .pre) (a .leaf) (found-leaf xs (a .n) (a .leaf) (s .pre) (t .enum-told2 .given .0 .0) (f .0) (f .1)) in
+    let m = held-leaf xs (a .n) (s .pre) (a .leaf) (found-leaf xs (a .n) (s .pre) (t .enum-told2 .given .0 .0) (a .leaf) (f .0) (f .1)) in
     (held-upto xs (a .n) (s .pre), subst (λ (Q : ℕ). InMesh (take (a .n) xs) Q (a .leaf)) (sym (c .faces-in .ensures)) m, omega arith)
 
 returns-3 : tie.Need-returns-3
@@ -67,7 +66,7 @@ returns-3 c =
     let f = subst (LeafAt (a .slots .now) (a .n) (a .leaf)) (c .enum-told .given .1) (c .before .before .leaf-at .ensures) in
     code-on notCrossed (a .leaf) (acrossEnd (a .slots .now) (a .leaf) (a .direction))
     (code-is-formed (a .leaf) (b .before .check .ensures) (b .if1 .left))
-    (inr (omega arith, inl (found-none (a .slots .now) (a .n) (a .leaf) (s .pre) f, refl)))
+    (inr (omega arith, inl (found-none (a .slots .now) (a .n) (s .pre) (a .leaf) f, refl)))
 
 returns-4 : tie.Need-returns-4
 returns-4 c =
@@ -77,7 +76,7 @@ returns-4 c =
     let a = s .args in
     let xs = a .slots .now in
     let f = subst (LeafAt xs (a .n) (a .leaf)) (t .enum-told2 .given .1) (t .before .before .leaf-at .ensures) in
-    let m = found-leaf xs (a .n) (a .leaf) (s .pre) (t .enum-told2 .given .0 .0) (f .0) (f .1) in
+    let m = found-leaf xs (a .n) (s .pre) (t .enum-told2 .given .0 .0) (a .leaf) (f .0) (f .1) in
     let r = c .side-of .result in
     let e = subst (λ (L : List ℕ). MetIs L (a .leaf) (a .direction) r) (held-take xs (a .n) (s .pre)) (c .side-of .ensures) in
     code-on notCrossed (a .leaf) (acrossEnd xs (a .leaf) (a .direction))

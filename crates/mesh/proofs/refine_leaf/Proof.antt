@@ -13,7 +13,7 @@ use Rattle.soundness.specs.Leaves.{Leaf, leaves, pad}
 use Rattle.soundness.specs.Changes.{refined}
 use Rattle.soundness.specs.Sides.{BlocksRefine, LeastOf, Some}
 use Rattle.sides.specs.Sides.{InMesh}
-use Rattle.mesh.proofs.Held.{held-take, held-upto, held-filled, held-leaf, held-at}
+use Rattle.mesh.proofs.Held.{held-take, held-upto, held-filled, held-leaf, found-leaf}
 use Rattle.mesh.specs.Answers.{outcome}
 use Rattle.mesh.proofs.refine_leaf.Statement.{statement}
 use Rattle.mesh.proofs.refine_leaf.Tie as tie
@@ -33,7 +33,7 @@ refine-blocker-requires c κs =
     let a = s .args in
     let xs = a .slots .now in
     let h = s .pre .0 in
-    let m = subst (Leaf (leaves xs)) (s .pre .2) (held-at xs (a .n) h (a .at) (s .pre .1)) in
+    let m = found-leaf xs (a .n) h (a .at) (a .leaf) (s .pre .1) (s .pre .2) in
     (held-upto xs (a .n) h, subst (λ (Q : ℕ). InMesh (take (a .n) xs) Q (a .leaf)) (sym (c .faces-in .ensures)) (held-leaf xs (a .n) h (a .leaf) m))
 
 same-length : tie.Need-same-length

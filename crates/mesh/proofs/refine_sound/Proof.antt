@@ -8,7 +8,7 @@ use borrow.Author.Needs.{needs}
 use Rattle.codes.proofs.Faults.{code-refused, code-on, code-is-formed}
 use Rattle.soundness.specs.Leaves.{Leaf, leaves}
 use Rattle.leaves.specs.Leaves.{LeafAt}
-use Rattle.mesh.proofs.Held.{held-take, held-upto, held-ascend, held-at}
+use Rattle.mesh.proofs.Held.{held-upto, held-ascend, found-leaf, found-none}
 use Rattle.mesh.specs.Calls.{kept, refineEnd}
 use Rattle.mesh.proofs.refine_sound.Statement.{statement}
 use Rattle.mesh.proofs.refine_sound.Tie as tie
@@ -51,7 +51,7 @@ returns-2 c =
     let a = s .args in
     let xs = a .slots .now in
     let e = c .before .before .before .before in
-    let none = subst (λ (L : List ℕ). Leaf L (a .leaf) → ⊥) (held-take xs (a .n) (s .pre)) (subst (LeafAt xs (a .n) (a .leaf)) (c .enum-told .given .1) (c .before .before .leaf-at .ensures)) in
+    let none = found-none xs (a .n) (s .pre) (a .leaf) (subst (LeafAt xs (a .n) (a .leaf)) (c .enum-told .given .1) (c .before .before .leaf-at .ensures)) in
     code-on (kept xs) (a .leaf) (refineEnd xs (a .leaf)) (code-is-formed (a .leaf) (e .before .check .ensures) (e .if1 .left)) (inl (none, refl))
 
 same-length-2 : tie.Need-same-length-2
@@ -64,7 +64,7 @@ returns-3 c =
     let xs = a .slots .now in
     let e = c .before .before .before .before .before .before .before .before .before in
     let at = subst (LeafAt xs (a .n) (a .leaf)) (c .before .before .before .before .before .at .given .1) (c .before .before .before .before .before .before .before .leaf-at .ensures) in
-    let m = subst (Leaf (leaves xs)) (at .1) (held-at xs (a .n) (s .pre) (c .before .before .before .before .before .at .given .0 .0) (at .0)) in
+    let m = found-leaf xs (a .n) (s .pre) (c .before .before .before .before .before .at .given .0 .0) (a .leaf) (at .0) (at .1) in
     code-on (kept xs) (a .leaf) (refineEnd xs (a .leaf)) (code-is-formed (a .leaf) (e .before .check .ensures) (e .if1 .left))
     (inr (m, c .before .before .refine-leaf .ensures))
 
