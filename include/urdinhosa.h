@@ -6,10 +6,10 @@
  * Every function answers every input. A bad input is refused by its number, one of the constants below; the first cause
  * in a function's list wins. No code is below 2^62, so a code is never taken for the number of a refusal.
  *
- * A mesh is a slice of at most 8192 slots that the caller lends: leaves first, then only zeros. It is sound when there is
- * at least one leaf, every leaf is the code of a cell of one solid, codes ascend strictly, the leaves cover the whole
- * solid and no two overlap, and leaves that share a stretch of a side differ by at most one level. Every function on a
- * mesh looks at the whole slice before it does anything else.
+ * A mesh is a slice of at most 8192 slots that the caller lends: leaves first, then only zeros. It is sound when there
+ * is at least one leaf, every leaf is the code of a cell of one solid, codes ascend strictly, the leaves cover the whole
+ * solid and no two overlap, and leaves that share a stretch of a side differ by at most one level. Every function that
+ * is given a mesh looks at the whole slice before it does anything else.
  *
  * Of the pointers the caller promises:
  *   - `slots` is not null, is aligned as uint64_t is, and is good for `length` numbers;
@@ -134,8 +134,8 @@ uint64_t urdinhosa_fresh(uint64_t *slots, size_t length, uint64_t solid);
 
 /* Puts the four children of a leaf in its place.
  *
- * slots    in and out: the mesh. The leaves after the refined one move up three slots, and no slot past the new count is
- *          written; nothing is written when refused.
+ * slots    in and out: the mesh. The leaves after the refined one move up three slots, and the slots past the new count
+ *          stay as they are; nothing is written when refused.
  * length   in: how many slots there are
  * leaf     in: any number
  * blocker  out: the least leaf that is in the way when BLOCKED is returned, else 0. In the way are the larger leaves
@@ -147,8 +147,8 @@ uint64_t urdinhosa_refine(uint64_t *slots, size_t length, uint64_t leaf, uint64_
 
 /* Puts a cell in the place of its four children, which are leaves.
  *
- * slots    in and out: the mesh. The leaves after the four move down three slots, and the freed slots become zero; nothing
- *          is written when refused.
+ * slots    in and out: the mesh. The leaves after the four move down three slots, and the freed slots become zero;
+ *          nothing is written when refused.
  * length   in: how many slots there are
  * cell     in: any number
  * blocker  out: the least leaf that is in the way when BLOCKED is returned, else 0. In the way are the smaller leaves

@@ -1,5 +1,5 @@
-//! Location codes of triangles on the tetrahedron, the octahedron and the icosahedron, and balanced meshes: safe calls of
-//! the Urdinhosa library, whose C interface is `include/urdinhosa.h`.
+//! Location codes of triangles on the tetrahedron, the octahedron and the icosahedron, and balanced meshes: safe calls
+//! of the Urdinhosa library, whose C interface is `include/urdinhosa.h`.
 //!
 //! A code is one 64-bit number. From the top: 2 bits solid (1 tetrahedron, 2 octahedron, 3 icosahedron), 5 bits face,
 //! 52 bits path (one two-bit digit a level, the first on top, zeros after the last), 5 bits depth (0 to 26).
