@@ -7,9 +7,9 @@
  * in a function's list wins. No code is below 2^62, so a code is never taken for the number of a refusal.
  *
  * A mesh is a slice of at most 8192 slots that the caller lends: leaves first, then only zeros. It is sound when there
- * is at least one leaf, every leaf is the code of a cell of one solid, codes ascend strictly, the leaves cover the whole
- * solid and no two overlap, and leaves that share a stretch of a side differ by at most one level. Every function that
- * is given a mesh looks at the whole slice before it does anything else.
+ * is at least one leaf, every leaf is the code of a cell of one solid, codes ascend strictly, the leaves cover the
+ * whole solid and no two overlap, and leaves that share a stretch of a side differ by at most one level. Every function
+ * that is given a mesh looks at the whole slice before it does anything else.
  *
  * Of the pointers the caller promises:
  *   - `slots` is not null, is aligned as uint64_t is, and is good for `length` numbers;

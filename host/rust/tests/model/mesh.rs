@@ -1,7 +1,7 @@
 //! Meshes: which are sound, how they change, what lies across a side and the run under a cell.
 //!
-//! Nothing here steps to a neighbour or searches by the order of codes. Every leaf is looked at, and whether two of them
-//! share a stretch of a side is read off the ends of their sides, as points of the solid.
+//! Nothing here steps to a neighbour or searches by the order of codes. Every leaf is looked at, and whether two of
+//! them share a stretch of a side is read off the ends of their sides, as points of the solid.
 
 use super::codes::{self, Cell, BLOCKED, BUFFER, DEEP, DEEPEST, DIRECTION, MESH, NOT_FOUR, NOT_LEAF, ROOM, SOLID};
 use super::corners::{self, Weights};
