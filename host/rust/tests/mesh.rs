@@ -303,11 +303,9 @@ fn dive(slots: &mut [u64], target: &Cell) {
         let above = Cell { digits: target.digits[..depth].to_vec(), ..*target };
         let mut wanted = vec![codes::code_of(&above)];
         while let Some(&leaf) = wanted.last() {
-            match Change::Refine(leaf).by_model(slots) {
-                Err((BLOCKED, blocker)) => wanted.push(blocker),
-                _ => {
-                    wanted.pop();
-                }
+            match urdinhosa::refine(&mut slots.to_vec(), leaf) {
+                Err(Stopped::Blocked(blocker)) => wanted.push(blocker),
+                _ => drop(wanted.pop()),
             }
             let number = compare_change(slots, Change::Refine(leaf));
             assert!([0, BLOCKED].contains(&number), "{:#018x} is refused by {}", leaf, number);
@@ -369,7 +367,8 @@ fn the_longest_slice_may_be_full_and_what_coarsening_frees_serves_a_refine() {
     assert_eq!(compare_change(&mut slots, Change::Refine(first)), 0);
     assert_ne!(slots[MOST_SLOTS - 1], 0);
     assert_eq!(compare_change(&mut slots, Change::Coarsen(parent(first))), NOT_FOUR);
-    assert_eq!(compare_across(&slots, last - (1 << 40), 1), NOT_LEAF);
+    assert_eq!(compare_across(&slots, last, 1), NOT_LEAF);
+    assert_eq!(compare_across(&slots, parent(last), 1), 0);
     assert_eq!(compare_run(&slots, 0x8e00_0000_0000_0000), 0);
     assert_eq!(compare_run(&slots, last), 0);
 }
