@@ -13,6 +13,16 @@
 #define BIT_AFTER_LAST_DIGIT UINT64_C(0x4000000000000020)
 #define WHOLE (UINT64_C(1) << 26)
 #define HALF (UINT64_C(1) << 25)
+#define FACE_1_OF_TETRAHEDRON UINT64_C(0x4200000000000000)
+#define FACE_2_OF_TETRAHEDRON UINT64_C(0x4400000000000000)
+#define FACE_3_OF_TETRAHEDRON UINT64_C(0x4600000000000000)
+#define CHILD_00_OF_FACE_0 UINT64_C(0x4000000000000001)
+#define CHILD_01_OF_FACE_0 UINT64_C(0x4080000000000001)
+#define CHILD_10_OF_FACE_0 UINT64_C(0x4100000000000001)
+#define CHILD_11_OF_FACE_0 UINT64_C(0x4180000000000001)
+#define OTHER UINT64_C(99)
+#define SLOTS 19
+#define TOO_MANY 8193
 
 static unsigned passed;
 static unsigned failed;
@@ -49,6 +59,12 @@ static void check_numbers_of_refusals(void)
     check("the number of DEEP", URDINHOSA_DEEP, 7);
     check("the number of ROOT", URDINHOSA_ROOT, 8);
     check("the number of POINT", URDINHOSA_POINT, 9);
+    check("the number of BUFFER", URDINHOSA_BUFFER, 10);
+    check("the number of MESH", URDINHOSA_MESH, 11);
+    check("the number of NOT_LEAF", URDINHOSA_NOT_LEAF, 12);
+    check("the number of NOT_FOUR", URDINHOSA_NOT_FOUR, 13);
+    check("the number of BLOCKED", URDINHOSA_BLOCKED, 14);
+    check("the number of ROOM", URDINHOSA_ROOM, 15);
 }
 
 static void check_pack(void)
@@ -172,6 +188,158 @@ static void check_locate(void)
     check("locate: a sum that wraps around", urdinhosa_locate(1, 0, UINT64_MAX, 1, WHOLE, 0), 9);
 }
 
+/* The slots stand between two numbers that have to stay. */
+static uint64_t room[1 + SLOTS + 1];
+static uint64_t *const slots = room + 1;
+
+static void fill_room_with_other_numbers(void)
+{
+    for (int i = 0; i < 1 + SLOTS + 1; i++) {
+        room[i] = OTHER;
+    }
+}
+
+/* The leaves, zeros to the end of a slice of so many slots, and after it what stood there. */
+static void check_slots(const char *what, const uint64_t *leaves, int count_of_leaves, int length)
+{
+    uint64_t expected[1 + SLOTS + 1];
+    for (int i = 0; i < 1 + SLOTS + 1; i++) {
+        expected[i] = i < 1 || i > length ? OTHER : i > count_of_leaves ? 0 : leaves[i - 1];
+    }
+    count(same_numbers(room, expected, 1 + SLOTS + 1));
+    printf("the slots after %s, and those beside them\n", what);
+}
+
+typedef uint64_t change(uint64_t *slots, size_t length, uint64_t code, uint64_t *blocker);
+
+static void check_change(const char *what, change *call, size_t length, uint64_t code, uint64_t number,
+                         uint64_t blocker)
+{
+    const uint64_t expected[4] = {number, OTHER, blocker, OTHER};
+    uint64_t answer[4] = {OTHER, OTHER, OTHER, OTHER};
+    answer[0] = call(slots, length, code, answer + 2);
+
+    const int is_right = same_numbers(answer, expected, 4);
+    count(is_right);
+    printf("%s is %" PRIu64 " with blocker 0x%" PRIx64, what, answer[0], answer[2]);
+    if (!is_right) {
+        printf(", expected %" PRIu64 " with 0x%" PRIx64 ", none written beside", number, blocker);
+    }
+    printf("\n");
+}
+
+static void check_across(const char *what, uint64_t leaf, uint64_t direction, uint64_t number, int64_t level,
+                         uint64_t first, uint64_t second)
+{
+    int64_t level_answered = 99;
+    uint64_t first_answered = OTHER;
+    uint64_t second_answered = OTHER;
+    const uint64_t answer =
+        urdinhosa_across(slots, SLOTS, leaf, direction, &level_answered, &first_answered, &second_answered);
+
+    const int is_right =
+        answer == number && level_answered == level && first_answered == first && second_answered == second;
+    count(is_right);
+    printf("across: %s is %" PRIu64 " with level %" PRId64 ", 0x%" PRIx64 ", 0x%" PRIx64, what, answer, level_answered,
+           first_answered, second_answered);
+    if (!is_right) {
+        printf(", expected %" PRIu64 " with %" PRId64 ", 0x%" PRIx64 ", 0x%" PRIx64, number, level, first, second);
+    }
+    printf("\n");
+}
+
+static void check_run(const char *what, uint64_t cell, uint64_t number, size_t start, size_t length)
+{
+    size_t start_answered = 99;
+    size_t length_answered = 99;
+    const uint64_t answer = urdinhosa_run(slots, SLOTS, cell, &start_answered, &length_answered);
+
+    const int is_right = answer == number && start_answered == start && length_answered == length;
+    count(is_right);
+    printf("run: %s is %" PRIu64 " with start %zu, count %zu", what, answer, start_answered, length_answered);
+    if (!is_right) {
+        printf(", expected %" PRIu64 " with %zu, %zu", number, start, length);
+    }
+    printf("\n");
+}
+
+static void check_changes_of_mesh(void)
+{
+    const uint64_t faces[4] = {FACE_0_OF_TETRAHEDRON, FACE_1_OF_TETRAHEDRON, FACE_2_OF_TETRAHEDRON,
+                               FACE_3_OF_TETRAHEDRON};
+    /* the mesh that document 01 lists, called M there */
+    const uint64_t listed[7] = {CHILD_00_OF_FACE_0,    CHILD_01_OF_FACE_0,    CHILD_10_OF_FACE_0,   CHILD_11_OF_FACE_0,
+                                FACE_1_OF_TETRAHEDRON, FACE_2_OF_TETRAHEDRON, FACE_3_OF_TETRAHEDRON};
+
+    fill_room_with_other_numbers();
+    check("sound: other numbers", urdinhosa_sound(slots, SLOTS), 0);
+    check("sound: no slots", urdinhosa_sound(slots, 0), 0);
+    check("fresh: solid 4", urdinhosa_fresh(slots, SLOTS, 4), 1);
+    check("fresh: octahedron in 7 slots", urdinhosa_fresh(slots, 7, 2), 15);
+    check_slots("the refused calls", faces, 0, 0);
+    check("fresh: tetrahedron in 10 slots", urdinhosa_fresh(slots, 10, 1), 0);
+    check_slots("fresh", faces, 4, 10);
+    check("sound: the faces", urdinhosa_sound(slots, 10), 1);
+
+    check_change("refine: face 0", urdinhosa_refine, 10, FACE_0_OF_TETRAHEDRON, 0, 0);
+    check_slots("refine", listed, 7, 10);
+    check_change("refine: blocked by a face (case 9)", urdinhosa_refine, 10, CHILD_00_OF_FACE_0, 14,
+                 FACE_1_OF_TETRAHEDRON);
+    check_change("refine: too few slots (case 10)", urdinhosa_refine, 9, CHILD_10_OF_FACE_0, 15, 0);
+    check_change("refine: no leaf", urdinhosa_refine, 10, FACE_0_OF_TETRAHEDRON, 12, 0);
+    check_change("refine: code 0", urdinhosa_refine, 10, 0, 1, 0);
+    check_change("coarsen: a cell of depth 26", urdinhosa_coarsen, 10, DEEPEST_CELL, 7, 0);
+    check_slots("the refused calls", listed, 7, 10);
+
+    check_change("refine: just enough slots (case 10)", urdinhosa_refine, 10, CHILD_10_OF_FACE_0, 0, 0);
+    check_change("coarsen: not four (case 11)", urdinhosa_coarsen, 10, FACE_0_OF_TETRAHEDRON, 13, 0);
+    check_change("coarsen: back to the mesh listed", urdinhosa_coarsen, 10, CHILD_10_OF_FACE_0, 0, 0);
+    check_slots("coarsen", listed, 7, 10);
+
+    check("fresh: tetrahedron again, in 19 slots", urdinhosa_fresh(slots, SLOTS, 1), 0);
+    for (int i = 0; i < 4; i++) {
+        check_change("refine: a face", urdinhosa_refine, SLOTS, faces[i], 0, 0);
+    }
+    check_change("refine: a child of face 0", urdinhosa_refine, SLOTS, CHILD_00_OF_FACE_0, 0, 0);
+    check_change("coarsen: blocked by a smaller leaf (case 12)", urdinhosa_coarsen, SLOTS, FACE_1_OF_TETRAHEDRON, 14,
+                 UINT64_C(0x4000000000000002));
+
+    slots[1] = slots[0];
+    check("sound: a leaf doubled", urdinhosa_sound(slots, SLOTS), 0);
+    check_change("refine: a leaf doubled", urdinhosa_refine, SLOTS, 0, 11, 0);
+}
+
+static void check_questions_to_mesh(void)
+{
+    fill_room_with_other_numbers();
+    check("fresh: tetrahedron", urdinhosa_fresh(slots, SLOTS, 1), 0);
+    check_change("refine: face 0", urdinhosa_refine, SLOTS, FACE_0_OF_TETRAHEDRON, 0, 0);
+
+    check_across("two smaller leaves", FACE_1_OF_TETRAHEDRON, 0, 0, 1, CHILD_00_OF_FACE_0, CHILD_11_OF_FACE_0);
+    check_across("a leaf as large", FACE_1_OF_TETRAHEDRON, 1, 0, 0, FACE_2_OF_TETRAHEDRON, 0);
+    check_across("a larger leaf", CHILD_00_OF_FACE_0, 1, 0, -1, FACE_1_OF_TETRAHEDRON, 0);
+    check_across("direction 3 of no leaf", FACE_0_OF_TETRAHEDRON, 3, 5, 0, 0, 0);
+    check_across("no leaf", FACE_0_OF_TETRAHEDRON, 2, 12, 0, 0, 0);
+
+    check_run("under face 0", FACE_0_OF_TETRAHEDRON, 0, 0, 4);
+    check_run("under face 2, a leaf", FACE_2_OF_TETRAHEDRON, 0, 5, 1);
+    check_run("under a cell in a larger leaf", UINT64_C(0x4400000000000001), 0, 0, 0);
+    check_run("under a face of the octahedron", UINT64_C(0x8000000000000000), 0, 0, 0);
+    check_run("under a code with a tail", BIT_AFTER_LAST_DIGIT, 4, 0, 0);
+}
+
+static void check_slice_too_long(void)
+{
+    static uint64_t many[TOO_MANY];
+    uint64_t blocker = OTHER;
+    check("fresh: 8192 slots", urdinhosa_fresh(many, TOO_MANY - 1, 3), 0);
+    check("sound: 8192 slots", urdinhosa_sound(many, TOO_MANY - 1), 1);
+    check("sound: 8193 slots", urdinhosa_sound(many, TOO_MANY), 0);
+    check("fresh: 8193 slots", urdinhosa_fresh(many, TOO_MANY, 0), 10);
+    check("refine: 8193 slots", urdinhosa_refine(many, TOO_MANY, many[0], &blocker), 10);
+    check("the blocker of 8193 slots", blocker, 0);
+}
+
 int main(void)
 {
     check_numbers_of_refusals();
@@ -181,6 +349,9 @@ int main(void)
     check_child();
     check_steps();
     check_locate();
+    check_changes_of_mesh();
+    check_questions_to_mesh();
+    check_slice_too_long();
     printf("%u passed, %u failed\n", passed, failed);
     return failed == 0 ? 0 : 1;
 }

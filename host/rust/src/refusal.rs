@@ -23,10 +23,20 @@ pub enum Refusal {
     Root = 8,
     /// The weights do not sum to 2^26.
     Point = 9,
+    /// The slice is longer than 8192.
+    Buffer = 10,
+    /// The slice is no sound mesh.
+    Mesh = 11,
+    /// The code of a cell that is no leaf of this mesh.
+    NotLeaf = 12,
+    /// Some child of the cell is no leaf of this mesh.
+    NotFour = 13,
+    /// There are too few slots.
+    Room = 15,
 }
 
 impl Refusal {
-    const ALL: [Refusal; 9] = [
+    const ALL: [Refusal; 14] = [
         Refusal::Solid,
         Refusal::Face,
         Refusal::Depth,
@@ -36,6 +46,11 @@ impl Refusal {
         Refusal::Deep,
         Refusal::Root,
         Refusal::Point,
+        Refusal::Buffer,
+        Refusal::Mesh,
+        Refusal::NotLeaf,
+        Refusal::NotFour,
+        Refusal::Room,
     ];
 
     /// The number by which the C interface names this refusal.
@@ -64,6 +79,11 @@ impl Refusal {
             Refusal::Deep => "a cell of depth 26 has no child",
             Refusal::Root => "a cell of depth 0 has no parent",
             Refusal::Point => "the weights do not sum to 2^26",
+            Refusal::Buffer => "the slice is longer than 8192",
+            Refusal::Mesh => "the slice is no sound mesh",
+            Refusal::NotLeaf => "the cell is no leaf of this mesh",
+            Refusal::NotFour => "some child of the cell is no leaf of this mesh",
+            Refusal::Room => "there are too few slots",
         }
     }
 }
@@ -75,6 +95,54 @@ impl fmt::Display for Refusal {
 }
 
 impl std::error::Error for Refusal {}
+
+/// Why a mesh was not refined or coarsened.
+#[derive(Clone, Copy, Debug, PartialEq, Eq, Hash)]
+pub enum Stopped {
+    /// The call was refused for what it was given.
+    Refused(Refusal),
+    /// A leaf across a side is in the way, the one with the least code if there are several.
+    Blocked(u64),
+}
+
+const BLOCKED: u64 = 14;
+
+impl Stopped {
+    /// The number by which the C interface names this refusal.
+    pub fn number(self) -> u64 {
+        match self {
+            Stopped::Refused(refusal) => refusal.number(),
+            Stopped::Blocked(_) => BLOCKED,
+        }
+    }
+}
+
+impl fmt::Display for Stopped {
+    fn fmt(&self, out: &mut fmt::Formatter<'_>) -> fmt::Result {
+        match self {
+            Stopped::Refused(refusal) => refusal.fmt(out),
+            Stopped::Blocked(leaf) => write!(out, "the leaf {:#018x} across a side is in the way", leaf),
+        }
+    }
+}
+
+impl std::error::Error for Stopped {}
+
+/// Reads the answer of a call that gives 0 or else the refusal's number.
+pub(crate) fn done_or_refusal(number: u64) -> Result<(), Refusal> {
+    match number {
+        0 => Ok(()),
+        refused => Err(Refusal::of_number(refused)),
+    }
+}
+
+/// Reads the answer of a call that gives the blocking leaf beside that number.
+pub(crate) fn done_or_stopped(number: u64, blocker: u64) -> Result<(), Stopped> {
+    match number {
+        BLOCKED => Err(Stopped::Blocked(blocker)),
+        other => done_or_refusal(other).map_err(Stopped::Refused),
+    }
+}
 
 const LEAST_CODE: u64 = 1 << 62;
 

@@ -11,6 +11,12 @@ pub const DIGIT: u64 = 6;
 pub const DEEP: u64 = 7;
 pub const ROOT: u64 = 8;
 pub const POINT: u64 = 9;
+pub const BUFFER: u64 = 10;
+pub const MESH: u64 = 11;
+pub const NOT_LEAF: u64 = 12;
+pub const NOT_FOUR: u64 = 13;
+pub const BLOCKED: u64 = 14;
+pub const ROOM: u64 = 15;
 
 pub const DEEPEST: u64 = 26;
 
