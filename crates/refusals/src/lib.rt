@@ -26,6 +26,8 @@ pub const NOT_LEAF: u64 = 12;
 
 pub const NOT_FOUR: u64 = 13;
 
+pub const BLOCKED: u64 = 14;
+
 pub const ROOM: u64 = 15;
 
 // The code that was asked for, or the number of the refusal.

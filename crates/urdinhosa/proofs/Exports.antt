@@ -1,6 +1,7 @@
 -- What crosses to C is single where the reply is.
 -- Assumes nothing.
 use mathlib.Core.List.{List}
+use mathlib.Core.Logic.{inl, inr}
 use mathlib.Core.Path.{_≡_, ap, sym, _∙_}
 use Prim.Native.Nat.{ℕ, _+_, _^_, _≤_}
 use native.Mathlib.Omega.{arith}
@@ -11,6 +12,8 @@ use Rattle.refusals.specs.declared.Answer.the-variants.{Code, Refused}
 use Rattle.codes.specs.Codes as codes
 use Rattle.codes.specs.Calls.{Unpacking}
 use Rattle.codes.proofs.Calls.{unpack-single}
+use Rattle.mesh.specs.Answers.{Outcome}
+use Rattle.mesh.specs.Calls.{Freshened}
 use Rattle.urdinhosa.specs.Exports.{oneNumber, Gives, values, Writes}
 
 -- one of the two parts of a reply is 0
@@ -30,3 +33,13 @@ writes-single x m n a b p q =
 
 pub code-large : (x : ℕ) → codes.Code x → 2 ^ 62 ≤ x
 code-large x c = omega (arith, c .known)
+
+-- making a mesh anew gives no value
+value-same : {o p : Outcome} → o ≡ p → o .reply .value ≡ p .reply .value
+value-same e = ap (λ (q : Outcome). q .reply .value) e
+
+pub fresh-value : (S Q : ℕ) (xs : List ℕ) (o : Outcome) → Freshened S Q xs o → o .reply .value ≡ 0
+fresh-value S Q xs o (inl h) = value-same (h .1)
+fresh-value S Q xs o (inr (short, inl h)) = value-same (h .1)
+fresh-value S Q xs o (inr (short, inr (known, inl h))) = value-same (h .1)
+fresh-value S Q xs o (inr (short, inr (known, inr (room, e)))) = value-same e

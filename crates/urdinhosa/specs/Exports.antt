@@ -3,15 +3,19 @@
 --   oneNumber a    == an answer as one number: the code, or else the refusal's
 --   Gives Q n      == n is that one number for an answer whose reply meets Q
 --   Writes x n out == n is the number, and out the four values, of the reply for unpacking x
+--   told n v       == the reply with the number n and the value v
+--   toldSide n d b c, toldPart n a m == the answers of across and run from their parts
 --
 -- Assumes nothing.
 use mathlib.Core.List.{List, [], _∷_}
 use mathlib.Core.Path.{_≡_}
 use Prim.Native.Nat.{ℕ}
+use lib.IntN.{ℤ}
 use Rattle.refusals.specs.Answers.{Reply, reply}
 use Rattle.refusals.specs.declared.Answer.{Answer}
 use Rattle.refusals.specs.declared.Answer.the-variants.{Code, Refused}
 use Rattle.codes.specs.Calls.{Unpacking, Unpacked}
+use Rattle.mesh.specs.Answers.{Crossing, Part}
 
 -- "It gets one number, the code or else the refusal's."
 abbrev pub oneNumber : Answer → ℕ
@@ -31,3 +35,13 @@ pub record Writes (x n : ℕ) (out : List ℕ) : Type 0 where
   pub meets : Unpacked x answer
   pub number : n ≡ answer .number
   pub slots : out ≡ values answer
+
+-- the number is returned, the other parts are written
+abbrev pub told : ℕ → ℕ → Reply
+told n v = record { number = n; value = v }
+
+abbrev pub toldSide : ℕ → ℤ → ℕ → ℕ → Crossing
+toldSide n d b c = record { number = n; level = d; first = b; second = c }
+
+abbrev pub toldPart : ℕ → ℕ → ℕ → Part
+toldPart n a m = record { number = n; start = a; count = m }

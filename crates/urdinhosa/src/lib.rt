@@ -5,12 +5,22 @@ ghost use mathlib.Core.Path.{_≡_};
 ghost use Prim.Native.Nat.{ℕ, _^_, _≤_};
 ghost use mathlib.Core.List.{List};
 ghost use Rattle.refusals.specs.Refusals.{Single};
+ghost use Rattle.refusals.specs.Answers.{Tells};
 ghost use Rattle.codes.specs.Codes.{Code};
 ghost use Rattle.codes.specs.Calls.{Packed, ParentOf, ChildOf};
 ghost use Rattle.points.specs.Located.{Located};
 ghost use Rattle.steps.specs.Stepped.{Stepped};
-ghost use Rattle.urdinhosa.specs.Exports.{oneNumber, Gives, Writes};
+ghost use Rattle.soundness.specs.Regions.{allFaces};
+ghost use Rattle.soundness.specs.Soundness.{SoundIn};
+ghost use Rattle.examine.specs.Examined.{wholeOf};
+ghost use Rattle.mesh.specs.Answers.{outcome, changeReply, crossing, acrossReply};
+ghost use Rattle.mesh.specs.Calls.{Freshened, Refined, Coarsened, AcrossOf, BoundsOf};
+ghost use Rattle.urdinhosa.specs.Exports.{oneNumber, Gives, Writes, told, toldSide, toldPart};
+use mesh::Change;
+use mesh::Extent;
+use mesh::Facing;
 use refusals::Answer;
+use soundness::Met;
 
 fn one_number(answer: Answer) -> u64
     ensures { λ r. ⌜ r ≡ oneNumber answer ⌝ }
@@ -86,6 +96,155 @@ pub fn methods_agree(code: u64, direction: u64) -> bool
     ensures { λ r. ⌜ r ≡ true ⌝ }
 {
     urdinhosa_step(code, direction) == urdinhosa_walk(code, direction)
+}
+
+// The answer of a call that changes a mesh, in parts.
+struct Told {
+    number: u64,
+    value: u64,
+}
+
+fn in_parts(change: Change) -> Told
+    ensures { λ r. ⌜ told (r .number) (r .value) ≡ changeReply change ⌝ }
+{
+    match change {
+        Change::Made => Told {
+            number: 0,
+            value: 0,
+        },
+        Change::Blocked(leaf) => Told {
+            number: refusals::BLOCKED,
+            value: leaf,
+        },
+        Change::Refused(number) => Told { number, value: 0 },
+    }
+}
+
+#[no_mangle]
+pub extern "C" fn urdinhosa_sound(slots: &[u64]) -> bool
+    ensures { λ r. ⌜ Tells r (SoundIn (wholeOf (now (slots .entry))) (now (slots .entry))) ⌝ }
+{
+    mesh::sound(slots)
+}
+
+#[no_mangle]
+pub extern "C" fn urdinhosa_fresh(slots: &mut [u64], solid: u64) -> u64
+    ensures { λ r. ⌜ Freshened solid (allFaces solid) (now (slots .entry)) (outcome (told r 0) (now (slots .exit))) ⌝ }
+{
+    in_parts(mesh::fresh(slots, solid)).number
+}
+
+#[no_mangle]
+pub extern "C" fn urdinhosa_refine(slots: &mut [u64], leaf: u64, blocker: &mut u64) -> u64
+    ensures { λ r. ⌜ Refined (wholeOf (now (slots .entry))) (now (slots .entry)) leaf (outcome (told r (now (blocker .exit))) (now (slots .exit))) ⌝ }
+{
+    let answer = in_parts(mesh::refine(slots, leaf));
+    *blocker = answer.value;
+    answer.number
+}
+
+#[no_mangle]
+pub extern "C" fn urdinhosa_coarsen(slots: &mut [u64], cell: u64, blocker: &mut u64) -> u64
+    ensures { λ r. ⌜ Coarsened (wholeOf (now (slots .entry))) (now (slots .entry)) cell (outcome (told r (now (blocker .exit))) (now (slots .exit))) ⌝ }
+{
+    let answer = in_parts(mesh::coarsen(slots, cell));
+    *blocker = answer.value;
+    answer.number
+}
+
+// What lies across a side, in parts.
+struct Side {
+    number: u64,
+    level: i64,
+    first: u64,
+    second: u64,
+}
+
+fn side_in_parts(met: Met) -> Side
+    ensures { λ r. ⌜ toldSide (r .number) (r .level) (r .first) (r .second) ≡ crossing met ⌝ }
+{
+    match met {
+        Met::Larger(leaf) => Side {
+            number: 0,
+            level: -1,
+            first: leaf,
+            second: 0,
+        },
+        Met::Equal(leaf) => Side {
+            number: 0,
+            level: 0,
+            first: leaf,
+            second: 0,
+        },
+        Met::Smaller(low, high) => Side {
+            number: 0,
+            level: 1,
+            first: low,
+            second: high,
+        },
+        Met::Open => Side {
+            number: 0,
+            level: 0,
+            first: 0,
+            second: 0,
+        },
+    }
+}
+
+fn facing_in_parts(facing: Facing) -> Side
+    ensures { λ r. ⌜ toldSide (r .number) (r .level) (r .first) (r .second) ≡ acrossReply facing ⌝ }
+{
+    match facing {
+        Facing::Side(met) => side_in_parts(met),
+        Facing::Refused(number) => Side {
+            number,
+            level: 0,
+            first: 0,
+            second: 0,
+        },
+    }
+}
+
+#[no_mangle]
+pub extern "C" fn urdinhosa_across(
+    slots: &[u64],
+    leaf: u64,
+    direction: u64,
+    level: &mut i64,
+    first: &mut u64,
+    second: &mut u64,
+) -> u64
+    ensures { λ r. ⌜ AcrossOf (wholeOf (now (slots .entry))) (now (slots .entry)) leaf direction (toldSide r (now (level .exit)) (now (first .exit)) (now (second .exit))) ⌝ }
+{
+    let answer = facing_in_parts(mesh::across(slots, leaf, direction));
+    let difference = answer.level;
+    *level = difference;
+    *first = answer.first;
+    *second = answer.second;
+    answer.number
+}
+
+#[no_mangle]
+pub extern "C" fn urdinhosa_run(
+    slots: &[u64],
+    cell: u64,
+    start: &mut usize,
+    count: &mut usize,
+) -> u64
+    ensures { λ r. ⌜ BoundsOf (wholeOf (now (slots .entry))) (now (slots .entry)) cell (toldPart r (now (start .exit)) (now (count .exit))) ⌝ }
+{
+    match mesh::bounds(slots, cell) {
+        Extent::Part(from, leaves) => {
+            *start = from;
+            *count = leaves;
+            0
+        }
+        Extent::Refused(number) => {
+            *start = 0;
+            *count = 0;
+            number
+        }
+    }
 }
 
 // Theorems. Each function has an empty body and stands for what it ensures, so that the gate asks for it by name.
