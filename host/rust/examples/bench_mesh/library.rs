@@ -56,9 +56,8 @@ pub fn answer(slots: &mut [u64], call: Call) -> Answer {
 fn across(slots: &[u64], leaf: u64, direction: u64) -> Answer {
     let (mut level, mut first, mut second) = (0, 0, 0);
     // SAFETY: pointer and length are those of a slice, and the answers go to variables.
-    let number = unsafe {
-        urdinhosa_across(slots.as_ptr(), slots.len(), leaf, direction, &mut level, &mut first, &mut second)
-    };
+    let number =
+        unsafe { urdinhosa_across(slots.as_ptr(), slots.len(), leaf, direction, &mut level, &mut first, &mut second) };
     let met = match level {
         -1 => Answer::Larger(first),
         0 => Answer::Equal(first),
