@@ -59,8 +59,8 @@ const ROWS: [Row; 7] = [
     Row { call: "run", draw: draw_run, meshes: LARGE },
 ];
 
-/// Microseconds that a call takes by each method, in one round, by row.
-type Times = [[f64; 2]; ROWS.len()];
+/// Microseconds that one call took by each method.
+type Times = [f64; 2];
 
 fn main() {
     let mut random = Random::with_seed(1);
@@ -68,8 +68,13 @@ fn main() {
     for _ in 0..DAMAGED_MESHES {
         assert_methods_agree_on_damage(&meshes, &mut random);
     }
-    let rounds: Vec<Times> = (0..ROUNDS).map(|_| time_rows(&meshes, &mut random)).collect();
-    print_table(&meshes, &rounds);
+    let mut samples: [Vec<Times>; ROWS.len()] = Default::default();
+    for _ in 0..ROUNDS {
+        for (row, samples) in ROWS.iter().zip(&mut samples) {
+            samples.extend(time_calls(row, &meshes[row.meshes], &mut random));
+        }
+    }
+    print_table(&meshes, &samples);
 }
 
 fn draw_meshes(leaves: usize, random: &mut Random) -> Vec<Mesh> {
@@ -171,22 +176,15 @@ fn with_damage(call: Call, random: &mut Random) -> Call {
     }
 }
 
-fn time_rows(meshes: &[Vec<Mesh>], random: &mut Random) -> Times {
-    let mut times = [[0.0; 2]; ROWS.len()];
-    for (row, times) in ROWS.iter().zip(&mut times) {
-        let meshes = &meshes[row.meshes];
-        for (turn, mesh) in meshes.iter().enumerate() {
-            let call = (row.draw)(mesh, random);
-            let [plain, proved] = time_call(mesh, call, turn % 2);
-            times[PLAIN] += plain / meshes.len() as f64;
-            times[PROVED] += proved / meshes.len() as f64;
-        }
-    }
-    times
+/// One call on each mesh. All are drawn before: drawing calls the library, and a processor would remember the mesh. The
+/// method that comes first is another one on the next mesh.
+fn time_calls(row: &Row, meshes: &[Mesh], random: &mut Random) -> Vec<Times> {
+    let calls: Vec<Call> = meshes.iter().map(|mesh| (row.draw)(mesh, random)).collect();
+    meshes.iter().zip(calls).enumerate().map(|(turn, (mesh, call))| time_call(mesh, call, turn % 2)).collect()
 }
 
 /// Microseconds by each method, on a copy of the mesh each. The methods have to agree.
-fn time_call(mesh: &Mesh, call: Call, first: usize) -> [f64; 2] {
+fn time_call(mesh: &Mesh, call: Call, first: usize) -> Times {
     let mut times = [0.0; 2];
     let mut answers = [Answer::Changed; 2];
     let mut copies = [mesh.slots.clone(), mesh.slots.clone()];
@@ -201,35 +199,37 @@ fn time_call(mesh: &Mesh, call: Call, first: usize) -> [f64; 2] {
     times
 }
 
-/// Medians of the rounds: of the times, and of the ratios of two times in the same round.
-fn print_table(meshes: &[Vec<Mesh>], rounds: &[Times]) {
+/// Medians of the times, of the ratios of two times of the same call, and of the ratios of a call and `sound` on the
+/// same mesh in the same round. A call that the machine interrupted is one of many and moves no median.
+fn print_table(meshes: &[Vec<Mesh>], samples: &[Vec<Times>]) {
     println!("| call | leaves | plain µs | proved µs | proved : plain | proved : sound |");
     println!("|---|---:|---:|---:|---:|---:|");
-    for (row, Row { call, meshes: size, .. }) in ROWS.iter().enumerate() {
-        let microseconds = |method: usize| median(rounds.iter().map(|times| times[row][method]));
-        let to_plain = median(rounds.iter().map(|times| times[row][PROVED] / times[row][PLAIN]));
-        let to_sound = median(rounds.iter().map(|times| times[row][PROVED] / times[SOUND_LARGE][PROVED]));
+    for (Row { call, meshes: size, .. }, times) in ROWS.iter().zip(samples) {
         println!(
             "| {} | {} | {:.1} | {:.1} | {:.2} | {:.2} |",
             call,
             SIZES[*size],
-            microseconds(PLAIN),
-            microseconds(PROVED),
-            to_plain,
-            to_sound
+            median(times.iter().map(|times| times[PLAIN])),
+            median(times.iter().map(|times| times[PROVED])),
+            median(times.iter().map(|times| times[PROVED] / times[PLAIN])),
+            ratio_of_proved(times, &samples[SOUND_LARGE])
         );
     }
     println!();
-    let growth = median(rounds.iter().map(|times| times[SOUND_LARGE][PROVED] / times[SOUND_MIDDLE][PROVED]));
-    let work = |size: usize| work_of(meshes[size].iter());
-    println!("sound from 500 to 8,000 leaves: {:.1} times; n log n: {:.1} times", growth, work(LARGE) / work(MIDDLE));
+    let growth = ratio_of_proved(&samples[SOUND_LARGE], &samples[SOUND_MIDDLE]);
+    let work = work_of(&meshes[LARGE]) / work_of(&meshes[MIDDLE]);
+    println!("sound from 500 to 8000 leaves: {:.1} times; n log n: {:.1} times", growth, work);
     let depths = || meshes[LARGE].iter().flat_map(|mesh| &mesh.slots[..mesh.count]).map(|leaf| leaf % 32);
-    println!("levels of the largest meshes: {} to {}", depths().min().unwrap(), depths().max().unwrap());
+    println!("depths of the leaves of the largest meshes: {} to {}", depths().min().unwrap(), depths().max().unwrap());
+}
+
+fn ratio_of_proved(long: &[Times], short: &[Times]) -> f64 {
+    median(long.iter().zip(short).map(|(long, short)| long[PROVED] / short[PROVED]))
 }
 
 /// n log n, added up.
-fn work_of<'a>(meshes: impl Iterator<Item = &'a Mesh>) -> f64 {
-    meshes.map(|mesh| mesh.count as f64 * (mesh.count as f64).log2()).sum()
+fn work_of(meshes: &[Mesh]) -> f64 {
+    meshes.iter().map(|mesh| mesh.count as f64 * (mesh.count as f64).log2()).sum()
 }
 
 fn median(values: impl Iterator<Item = f64>) -> f64 {
