@@ -1,9 +1,8 @@
 -- From the linear pass, the zeros and the level test to soundness, and back: a slice that fails one of them is not sound.
 -- Assumes nothing.
-use mathlib.Core.Bool.{Bool, true, false}
-use mathlib.Core.List.{List, []}
+use mathlib.Core.List.{List}
 use mathlib.Core.Path.{_≡_, ap, sym, _∙_, subst}
-use Prim.Native.Nat.{ℕ, _+_, _-_, _*_, _%_, _^_, _<_, _≤_}
+use Prim.Native.Nat.{ℕ, _-_, _*_, _%_, _^_, _<_, _≤_}
 use native.Mathlib.Nat.{mod-eq-of-lt}
 use native.Mathlib.Omega.{arith}
 use lib.ListN.{length, getD, take}
@@ -23,7 +22,6 @@ use Rattle.soundness.proofs.Prefixes.{leaves-take}
 use Rattle.soundness.proofs.Fresh.{head-leaf}
 use Rattle.slots.specs.Slots.{ZerosFrom}
 use Rattle.tiling.specs.Tiling.{Counts}
-use Rattle.examine.specs.Examined.{wholeOf}
 
 module _ (xs : List ℕ) (S Q n : ℕ) (e : S ≡ solid (getD xs 0 0)) (c : Counts S Q xs n) where
   own : SoundIn Q xs → Sound S Q xs

@@ -2,12 +2,10 @@
 -- Assumes nothing.
 use mathlib.Core.List.{List}
 use mathlib.Core.Logic.{inl, inr}
-use mathlib.Core.Path.{_≡_, refl}
-use Prim.Native.Nat.{ℕ, _<_, _≤_}
-use native.Mathlib.Omega.{arith}
+use mathlib.Core.Path.{refl}
+use Prim.Native.Nat.{ℕ, _≤_}
 use lib.ListN.{length}
-use Rattle.refusals.specs.Refusals.{BUFFER, MESH, Single}
-use Rattle.refusals.proofs.Refusals.{need-single, met}
+use Rattle.refusals.specs.Refusals.{BUFFER, MESH}
 use Rattle.soundness.specs.Soundness.{SoundIn}
 use Rattle.mesh.specs.Calls.{meshFaults}
 
@@ -20,11 +18,3 @@ module _ {A : Type 0} (out : ℕ → A) (Q : ℕ) (xs : List ℕ) (rest : A → 
 
   pub goes-on : {a : A} → length xs ≤ 8192 → SoundIn Q xs → rest a → meshFaults out Q xs rest a
   goes-on l s r = inr (l, inr (s, r))
-
-  pub mesh-single : (SoundIn Q xs → Single rest) → Single (meshFaults out Q xs rest)
-  mesh-single h = need-single (λ l. need-single h)
-
-  pub mesh-passed : {a : A} → ((k : ℕ) → 0 < k → a ≡ out k → ⊥) → meshFaults out Q xs rest a → SoundIn Q xs × rest a
-  mesh-passed n h =
-      let p = met (n BUFFER (omega arith)) h in
-      met (n MESH (omega arith)) (p .1)

@@ -8,7 +8,7 @@ use lib.ListN.{length, getD, take}
 use lib.Seq.{getD-take, length-take-le}
 use Rattle.codes.specs.Codes.{Code}
 use Rattle.codes.specs.Places.{childCode}
-use Rattle.soundness.specs.Leaves.{Leaf, Ascends, leaves, pad}
+use Rattle.soundness.specs.Leaves.{Leaf, Ascends, leaves}
 use Rattle.soundness.specs.Soundness.{Mesh}
 use Rattle.soundness.proofs.Fresh.{leaves-le}
 use Rattle.soundness.proofs.Leaves.{leaf-at}

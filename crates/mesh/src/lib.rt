@@ -5,7 +5,7 @@
 ghost use mathlib.Core.List.{List};
 ghost use mathlib.Core.Path.{_≡_};
 ghost use Prim.Native.Nat.{ℕ, _+_, _-_, _<_, _≤_};
-ghost use lib.ListN.{length, getD, take, drop};
+ghost use lib.ListN.{getD};
 ghost use Rattle.refusals.specs.Refusals.{Single};
 ghost use Rattle.refusals.specs.Answers.{Tells};
 ghost use Rattle.codes.specs.Codes.{depth, Code, codeFaults};

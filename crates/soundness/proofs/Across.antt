@@ -3,7 +3,6 @@
 --
 --   equal-side, larger-side, smaller-side, open-side == these four
 --   side-in    == a side with a neighbour on the faces meets one leaf, equal or larger, or exactly two smaller
---   side-is    == each side does, or it meets none
 --   whole-side == on the whole solid each side does
 --
 -- Assumes nothing.
@@ -24,7 +23,7 @@ use Rattle.soundness.specs.Soundness.{Held, Covers, Meets, Level, Mesh}
 use Rattle.soundness.specs.Sides.{Only, MetIs, OneOrTwo, one-larger, one-equal, two-smaller}
 use Rattle.soundness.specs.declared.Met.the-variants.{Larger, Equal, Smaller, Open}
 use Rattle.soundness.specs.Inner.{Inner, Around, Where, equal, inner, outer}
-use Rattle.soundness.proofs.Cells.{common, inq-in, inq-out, inq-or, holds-place, in-holds, in-place, both-around, in-same, apart-holds, depth-child, place-child, child-in, child-cell, in-kid, as-kid}
+use Rattle.soundness.proofs.Cells.{common, inq-in, inq-out, holds-place, in-holds, in-place, both-around, in-same, apart-holds, depth-child, place-child, child-in, child-cell, in-kid, as-kid}
 use Rattle.soundness.proofs.Leaves.{one-holder, leaves-apart, where-is}
 use Rattle.soundness.proofs.Fresh.{all-faces-in}
 use Rattle.soundness.proofs.Edges.{back-back, first-second, edge-four, edge-or}
@@ -193,9 +192,6 @@ module _ (S Q : ℕ) (step : ℕ → ℕ → ℕ) (N : StepLaws S step) (L : Lis
       go (equal m) = one-equal (step s a) (equal-side m)
       go (inner j) = two-smaller (childCode (step s a) (first (backNo s))) (childCode (step s a) (second (backNo s))) (smaller-side j)
       go (outer r) = one-larger (parentCode (step s a)) (larger-side r)
-
-  pub side-is : OneOrTwo L a s ⊎ MetIs L a s Open
-  side-is = ⊎-elim (λ i. inl (side-in i)) (λ o. inr (open-side o)) (inq-or Q (place (step s a)))
 
 pub whole-side : (S : ℕ) (step : ℕ → ℕ → ℕ) → StepLaws S step → (L : List ℕ) → Mesh S (allFaces S) L →
     (a s : ℕ) → Leaf L a → s < 3 → OneOrTwo L a s

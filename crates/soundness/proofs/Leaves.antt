@@ -4,7 +4,6 @@
 --   asc-at, asc-le             == ascending, by index
 --   one-holder, in-one         == leaves that hold one place are one, a leaf inside a leaf is that leaf
 --   leaves-apart               == two leaves lie apart
---   holder-key                 == the leaf that holds g is the last one below 32 * (g + 1)
 --   where-is, present-or       == where a cell stands: one of three, one of two
 --   inner-kid                  == each child of a cell with leaves strictly inside is a leaf or such a cell
 --   present-at, at-present     == leaves are in a cell, by one search
@@ -103,15 +102,6 @@ module _ (S Q : ℕ) (L : List ℕ) (C : Covers S Q L) where
       (le-or-lt (past x) (place y))
 
   -- the key passes the depth bits: of the codes that begin at g, the deeper is the greater
-  pub holder-key : (g b y : ℕ) → Leaf L b → Holds b g → Leaf L y → (y < 32 * (g + 1) → y ≤ b) × (y ≤ b → y < 32 * (g + 1))
-  holder-key g b y mb hb my =
-      ((λ l. ⊎-elim (λ h. h) (λ h. absurd (later h l)) (le-or-lt y b)), (λ h. omega (arith, hb .0)))
-    where
-      later : b < y → y < 32 * (g + 1) → ⊥
-      later h l =
-          let ne : b ≡ y → ⊥ = λ e. omega arith in
-          ⊎-elim (λ k. omega (arith, hb .1)) (λ k. omega (arith, size-pos (depth y), size-pos (depth b))) (leaves-apart b y mb my ne)
-
   -- where a cell stands
 
   pub where-is : (c : ℕ) → CodeOn S c → InFaces Q (place c) → Where L c

@@ -2,7 +2,6 @@
 --
 --   MetIs L a s m       == side s of the leaf a meets m: one larger or equal leaf, two smaller ones, or nothing
 --   OneOrTwo L a s      == it meets one leaf, equal or larger, or exactly two smaller
---   levelUp m           == the neighbouring leaf's level minus the leaf's own, and 1
 --   BlocksRefine L a b  == b is a larger leaf that a side of a meets
 --   BlocksCoarsen L c b == b is a smaller leaf that a side of one of the four children of c meets
 --   Some P              == there is something with P
@@ -48,13 +47,6 @@ pub data OneOrTwo (L : List ℕ) (a s : ℕ) : Type 0 where
   one-larger : (b : ℕ) → MetIs L a s (Larger b) → OneOrTwo L a s
   one-equal : (b : ℕ) → MetIs L a s (Equal b) → OneOrTwo L a s
   two-smaller : (b c : ℕ) → MetIs L a s (Smaller b c) → OneOrTwo L a s
-
--- "the neighbouring leaf's level minus its own, −1, 0 or 1": as a number from 0, one more
-abbrev pub levelUp : Met → ℕ
-levelUp (Larger b) = 0
-levelUp (Equal b) = 1
-levelUp (Smaller b c) = 2
-levelUp Open = 1
 
 -- "Refine is BLOCKED when a side meets a larger leaf."
 pub record BlocksRefine (L : List ℕ) (a b : ℕ) : Type 0 where

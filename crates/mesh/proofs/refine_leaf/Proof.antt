@@ -9,7 +9,7 @@ use borrow.Author.Needs.{needs}
 use lib.ListN.{length, take}
 use Rattle.codes.specs.Codes.{depth, Code}
 use Rattle.refusals.specs.Answers.{done}
-use Rattle.soundness.specs.Leaves.{Leaf, leaves, pad}
+use Rattle.soundness.specs.Leaves.{leaves, pad}
 use Rattle.soundness.specs.Changes.{refined}
 use Rattle.soundness.specs.Sides.{BlocksRefine, LeastOf, Some}
 use Rattle.sides.specs.Sides.{InMesh}

@@ -1,12 +1,9 @@
 -- A number that is not 0 is handed on; then the leaf is sought, and refined.
 -- Assumes nothing.
-use mathlib.Core.List.{List}
 use mathlib.Core.Logic.{inl, inr}
 use mathlib.Core.Path.{refl, subst}
-use Prim.Native.Nat.{ℕ}
 use borrow.Author.Needs.{needs}
 use Rattle.codes.proofs.Faults.{code-refused, code-on, code-is-formed}
-use Rattle.soundness.specs.Leaves.{Leaf, leaves}
 use Rattle.leaves.specs.Leaves.{LeafAt}
 use Rattle.mesh.proofs.Held.{held-upto, held-ascend, found-leaf, found-none}
 use Rattle.mesh.specs.Calls.{kept, refineEnd}
