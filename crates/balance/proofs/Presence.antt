@@ -1,31 +1,20 @@
--- Whether a cell is on the faces is told by a bit, whether some leaf is in it by one search.
+-- Whether some leaf is in a cell is told by one search.
 -- Assumes nothing.
 use mathlib.Core.Bool.{Bool}
 use mathlib.Core.List.{List}
 use mathlib.Core.Logic.{inr, ⊎-elim}
-use mathlib.Core.Path.{_≡_, ap, sym, _∙_, subst}
-use Prim.Native.Nat.{ℕ, _/_, _%_, _^_, _<_, _≤_}
+use Prim.Native.Nat.{ℕ, _<_, _≤_}
 use native.Mathlib.Omega.{arith}
 use borrow.Author.Tests.{eqb-true, eqb-false}
-use lib.Bits.{bitAnd, and-mask}
 use lib.Dec.{eqb}
 use lib.ListN.{length, getD}
 use Rattle.refusals.specs.Answers.{Tells}
-use Rattle.refusals.proofs.Answers.{tells-eq}
-use Rattle.codes.specs.Codes.{face}
 use Rattle.codes.specs.Places.{place}
-use Rattle.soundness.specs.Regions.{InFaces, faceOf}
+use Rattle.soundness.specs.Regions.{InFaces}
 use Rattle.soundness.specs.Inner.{Present, Below, Fine}
 use Rattle.soundness.proofs.Leaves.{present-at, at-present}
 use Rattle.balance.specs.Tiled.{TiledAround}
 use Rattle.balance.proofs.Tiled.{tiled-covers}
-
-pub face-tells : (Q x f : ℕ) → f ≡ face x → Tells (eqb (bitAnd (Q / 2 ^ f) 1) 1) (InFaces Q (place x))
-unfolding InFaces
-face-tells Q x f e =
-    let g : f ≡ faceOf (place x) = omega arith in
-    let m : bitAnd (Q / 2 ^ f) 1 ≡ Q / 2 ^ faceOf (place x) % 2 = and-mask (Q / 2 ^ f) 1 ∙ ap (λ (n : ℕ). Q / 2 ^ n % 2) g in
-    subst (λ (n : ℕ). Tells (eqb n 1) (InFaces Q (place x))) (sym m) (tells-eq (Q / 2 ^ faceOf (place x) % 2) 1)
 
 module _ (L : List ℕ) (c r : ℕ) (k : TiledAround L c) (B : Below L c r) where
   pub present-tells : r < length L → Tells (eqb (place (getD L r 0)) (place c)) (Present L c)

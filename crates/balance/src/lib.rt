@@ -6,9 +6,8 @@ ghost use Prim.Native.Nat.{_+_, _*_, _<_, _≤_};
 ghost use lib.ListN.{length, take};
 ghost use Rattle.refusals.specs.Answers.{Tells};
 ghost use Rattle.codes.specs.Codes.{depth};
-ghost use Rattle.codes.specs.Places.{place, parentCode, lastDigit};
+ghost use Rattle.codes.specs.Places.{parentCode, lastDigit};
 ghost use Rattle.steps.specs.Stepped.{stepCode};
-ghost use Rattle.soundness.specs.Regions.{InFaces};
 ghost use Rattle.soundness.specs.Inner.{Present, Fine, Rows};
 ghost use Rattle.balance.specs.Tiled.{Tiled, TiledFor, TiledAround, SidesFine};
 
@@ -18,13 +17,6 @@ fn last_two(code: u64) -> u64
     ensures { λ r. ⌜ r ≡ lastDigit (parentCode code) * 4 + lastDigit code ⌝ }
 {
     code >> (57 - 2 * codes::depth_of(code)) & 15
-}
-
-// Whether the face of a code is in the set.
-fn in_faces(faces: u64, code: u64) -> bool
-    ensures { λ r. ⌜ Tells r (InFaces faces (place code)) ⌝ }
-{
-    faces >> codes::face_of(code) & 1 == 1
 }
 
 // Whether some leaf of the first `n` is the cell or lies inside it, for a cell on the faces that they tile: the first leaf that is
@@ -45,7 +37,7 @@ fn is_fine(slots: &[u64], n: usize, faces: u64, code: u64) -> bool
     requires { ⌜ (n ≤ length (now slots)) × TiledFor faces (take n (now slots)) code ⌝ }
     ensures { λ r. ⌜ Tells r (Fine faces (take n (now (slots .entry))) code) ⌝ }
 {
-    if !in_faces(faces, code) {
+    if !soundness::in_faces(faces, code >> 5) {
         return true;
     }
     has_some(slots, n, code)

@@ -184,9 +184,118 @@ fn locating() {
     locate(1, 3, 0, 0, 0, 26);
 }
 
+fn sound(slots: &[u64]) {
+    io::write_all(STDOUT_FILENO, b"sound");
+    if urdinhosa::urdinhosa_sound(slots) {
+        answered(1);
+    } else {
+        answered(0);
+    }
+}
+
+// The number and the blocker that a call gave.
+fn changed(number: u64, blocker: u64) {
+    io::write_all(STDOUT_FILENO, b" ->");
+    shown(number);
+    shown(blocker);
+    io::write_all(STDOUT_FILENO, b"\n");
+}
+
+fn fresh(slots: &mut [u64], solid: u64) {
+    io::write_all(STDOUT_FILENO, b"fresh");
+    shown(solid);
+    answered(urdinhosa::urdinhosa_fresh(slots, solid));
+}
+
+fn refine(slots: &mut [u64], leaf: u64) {
+    io::write_all(STDOUT_FILENO, b"refine");
+    shown(leaf);
+    let mut blocker = 7;
+    let number = urdinhosa::urdinhosa_refine(slots, leaf, &mut blocker);
+    changed(number, blocker);
+}
+
+fn coarsen(slots: &mut [u64], cell: u64) {
+    io::write_all(STDOUT_FILENO, b"coarsen");
+    shown(cell);
+    let mut blocker = 7;
+    let number = urdinhosa::urdinhosa_coarsen(slots, cell, &mut blocker);
+    changed(number, blocker);
+}
+
+fn met(slots: &[u64], leaf: u64, direction: u64) {
+    io::write_all(STDOUT_FILENO, b"across");
+    shown(leaf);
+    shown(direction);
+    let mut level: i64 = 7;
+    let mut first = 7;
+    let mut second = 7;
+    let number = urdinhosa::urdinhosa_across(
+        slots,
+        leaf,
+        direction,
+        &mut level,
+        &mut first,
+        &mut second,
+    );
+    io::write_all(STDOUT_FILENO, b" ->");
+    shown(number);
+    if level < 0 {
+        io::write_all(STDOUT_FILENO, b" -1");
+    } else if level == 0 {
+        io::write_all(STDOUT_FILENO, b" 0");
+    } else {
+        io::write_all(STDOUT_FILENO, b" 1");
+    }
+    shown(first);
+    shown(second);
+    io::write_all(STDOUT_FILENO, b"\n");
+}
+
+fn run(slots: &[u64], cell: u64) {
+    io::write_all(STDOUT_FILENO, b"run");
+    shown(cell);
+    let mut start: usize = 7;
+    let mut count: usize = 7;
+    let number = urdinhosa::urdinhosa_run(slots, cell, &mut start, &mut count);
+    io::write_all(STDOUT_FILENO, b" ->");
+    shown(number);
+    shown(start as u64);
+    shown(count as u64);
+    io::write_all(STDOUT_FILENO, b"\n");
+}
+
+// The tetrahedron with its face 0 refined, and what comes of it in ten slots.
+fn on_a_mesh() {
+    let mut slots = [7u64; 10];
+    sound(&slots);
+    fresh(&mut slots, 0);
+    refine(&mut slots, 0x4000_0000_0000_0000);
+    met(&slots, 0x4000_0000_0000_0000, 0);
+    run(&slots, 0x4000_0000_0000_0000);
+    fresh(&mut slots, 1);
+    refine(&mut slots, 0x4000_0000_0000_0000);
+    refine(&mut slots, 0x4000_0000_0000_0001);
+    sound(&slots);
+    met(&slots, 0x4000_0000_0000_0001, 0);
+    met(&slots, 0x4200_0000_0000_0000, 0);
+    met(&slots, 0x4200_0000_0000_0000, 1);
+    met(&slots, 0x4200_0000_0000_0000, 3);
+    met(&slots, 0x4200_0000_0000_0001, 2);
+    run(&slots, 0x4000_0000_0000_0000);
+    run(&slots, 0x4600_0000_0000_0000);
+    run(&slots, 0x4600_0000_0000_0001);
+    refine(&mut slots, 0x4100_0000_0000_0001);
+    coarsen(&mut slots, 0x4000_0000_0000_0000);
+    refine(&mut slots, 0x4600_0000_0000_0000);
+    coarsen(&mut slots, 0x4100_0000_0000_0001);
+    coarsen(&mut slots, 0x4000_0000_0000_0000);
+}
+
 fn main() {
     on_codes();
     stepping();
     packing();
     locating();
+    on_a_mesh();
 }

@@ -20,7 +20,7 @@ use Rattle.soundness.specs.Leaves.{Leaf, Ascends}
 use Rattle.soundness.specs.Changes.{under}
 use Rattle.soundness.specs.Inner.{Below}
 use Rattle.soundness.proofs.Cells.{le-or-lt, past-end}
-use Rattle.soundness.proofs.Leaves.{at-leaf, asc-at, run-part}
+use Rattle.soundness.proofs.Leaves.{at-leaf, asc-le, run-part}
 use Rattle.soundness.proofs.Coarsened.{four-at}
 use Rattle.leaves.specs.Leaves.{Covered}
 
@@ -31,12 +31,7 @@ below-leaf L x r a b m =
     let e = n .is in
     let from : r ≤ n .at = ⊎-elim (λ h. h) (λ h. absurd (omega (arith, b .less (n .at) h))) (le-or-lt r (n .at)) in
     let low : r < length L = omega (arith, n .low) in
-    let same : getD L r 0 ≤ x =
-    ⊎-elim
-    (λ (h : n .at ≤ r). let i : r ≡ n .at = omega arith in omega (arith, ap (λ (k : ℕ). getD L k 0) i))
-    (λ (h : r < n .at). omega (arith, asc-at L a r (n .at) h (n .low)))
-    (le-or-lt (n .at) r) in
-    (low, omega (arith, b .rest r (omega arith) low))
+    (low, omega (arith, b .rest r (omega arith) low, asc-le L a r (n .at) from (n .low)))
 
 -- among slots of which the first n are leaves
 module _ (xs : List ℕ) (n x : ℕ) (h : n ≤ length xs) (a : Ascends (take n xs)) where

@@ -6,7 +6,7 @@ use mathlib.Core.Logic.{_⊎_, inl, inr}
 use mathlib.Core.Path.{_≡_, refl, ap, sym, _∙_, subst}
 use Prim.Native.Nat.{ℕ, zero, suc, _+_, _-_, _<_, _≤_}
 use native.Mathlib.Omega.{arith}
-use lib.ListN.{length, take, drop, length-drop}
+use lib.ListN.{length, take, drop, length-take, length-drop}
 use lib.Seq.{length-take-le}
 use borrow.Author.Tests.{lt-ltb, le-ltb, eq-eqb, ne-eqb}
 use Rattle.refusals.specs.Refusals.{BUFFER, MESH}
@@ -67,11 +67,6 @@ module _ (xs : List ℕ) (n c : ℕ) (h : Held xs n) (r : Run) (R : RunOf xs n c
         holds = run-holds;
       }
 
-length-take-most : (i : ℕ) (l : List ℕ) → length (take i l) ≤ length l
-length-take-most zero l = omega arith
-length-take-most (suc i) [] = omega arith
-length-take-most (suc i) (x ∷ l) = omega (arith, length-take-most i l)
-
 bounded-upto : (xs : List ℕ) (c a m : ℕ) → Bounded xs c (part a m) → a + m ≤ length xs
 bounded-upto xs c a m B = go m refl
   where
@@ -82,7 +77,7 @@ bounded-upto xs c a m B = go m refl
     start = ap (λ (p : Part). p .start) (B .is)
 
     within : m ≤ length xs - a
-    within = omega (arith, count, ap length (B .holds), length-take-most m (drop a xs), length-drop a xs)
+    within = omega (arith, count, ap length (B .holds), length-take m (drop a xs), length-drop a xs)
 
     go : (k : ℕ) → k ≡ m → a + m ≤ length xs
     go zero e =

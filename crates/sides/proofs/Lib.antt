@@ -1,4 +1,3 @@
-pub mod Faces
 pub mod Across
 pub mod Least
 pub mod Candidates

@@ -10,13 +10,13 @@ use mathlib.Core.Bool.{Bool}
 use mathlib.Core.List.{List}
 use mathlib.Core.Logic.{_⊎_, inl, inr, ⊎-elim}
 use mathlib.Core.Path.{_≡_, refl, subst}
-use Prim.Native.Nat.{ℕ, zero, suc, _+_, _<_, _≤_}
+use Prim.Native.Nat.{ℕ, _+_, _<_, _≤_}
 use native.Mathlib.Omega.{arith}
 use lib.ListN.{length, getD, take}
 use lib.Seq.{getD-take, length-take-le}
 use Rattle.soundness.specs.Leaves.{Leaf}
 use Rattle.soundness.proofs.Cells.{le-or-lt}
-use Rattle.soundness.proofs.Leaves.{leaf-at, at-leaf, asc-at}
+use Rattle.soundness.proofs.Leaves.{leaf-at, at-leaf, asc-le}
 use Rattle.sides.specs.Sides.{InMesh, AllIn, Stands, InTheWay, Lower, Blocker}
 use Rattle.sides.proofs.Least.{blocker-none, blocker-is, blocker-same, blocker-either}
 use Rattle.sides.proofs.Candidates.{code-pos}
@@ -102,11 +102,7 @@ module _ (xs : List ℕ) (n Q : ℕ) (small : Bool) (A : List ℕ) (h : n ≤ le
   front-least : (x : ℕ) → Leaf (take n xs) x → getD xs 0 0 ≤ x
   front-least x m =
       let r = at-leaf (take n xs) x m in
-      go (r .at) (r .low) (r .is)
-    where
-      go : (k : ℕ) → k < length (take n xs) → getD (take n xs) k 0 ≡ x → getD xs 0 0 ≤ x
-      go zero l e = omega (arith, front)
-      go (suc k) l e = omega (arith, front, asc-at (take n xs) (M .mesh .covers .ascend) 0 (suc k) (omega arith) l)
+      omega (arith, front, r .is, asc-le (take n xs) (M .mesh .covers .ascend) 0 (r .at) (omega arith) (r .low))
 
   pub first-least : (i s b : ℕ) → i < length A → s < 3 → b ≡ getD xs 0 0 → Blocker (Stands (take n xs) small (getD A i 0) s) b →
       Blocker (InTheWay (take n xs) small A) b

@@ -4,20 +4,10 @@
 ghost use mathlib.Core.Path.{_≡_};
 ghost use Prim.Native.Nat.{_<_, _≤_};
 ghost use lib.ListN.{length, take};
-ghost use Rattle.refusals.specs.Answers.{Tells};
 ghost use Rattle.codes.specs.Codes.{depth, Code};
-ghost use Rattle.codes.specs.Places.{place};
-ghost use Rattle.soundness.specs.Regions.{InFaces};
 ghost use Rattle.soundness.specs.Sides.{MetIs, BlocksRefine, BlocksCoarsen};
 ghost use Rattle.sides.specs.Sides.{InMesh, smallerOf, AllIn, FourIn, candidateOf, Lower, InTheWay, Blocker};
 use soundness::Met;
-
-// Whether the cell lies on one of the faces.
-fn in_faces(faces: u64, cell: u64) -> bool
-    ensures { λ r. ⌜ Tells r (InFaces faces (place cell)) ⌝ }
-{
-    faces >> codes::face_of(cell) & 1 == 1
-}
 
 // The two smaller leaves across a side: the children, on the side back, of the cell across.
 fn smaller(across: u64, side: u64) -> Met
@@ -37,7 +27,7 @@ pub fn side_of(slots: &[u64], n: usize, faces: u64, leaf: u64, side: u64) -> Met
     ensures { λ r. ⌜ MetIs (take n (now (slots .entry))) leaf side r ⌝ }
 {
     let across = steps::step_of(leaf, side);
-    if !in_faces(faces, across) {
+    if !soundness::in_faces(faces, across >> 5) {
         return Met::Open;
     }
     let i = slots::below(slots, n, across);

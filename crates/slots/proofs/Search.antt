@@ -1,25 +1,13 @@
 -- Search by halves: of slots that ascend, one settles all on one side of it.
 -- Assumes nothing.
-use mathlib.Core.List.{List, [], _∷_}
-use mathlib.Core.Logic.{inl, inr}
-use mathlib.Core.Path.{_≡_, refl}
-use Prim.Native.Nat.{ℕ, zero, suc, _+_, _<_, _≤_}
+use mathlib.Core.List.{List}
+use mathlib.Core.Path.{_≡_}
+use Prim.Native.Nat.{ℕ, _+_, _<_, _≤_}
 use native.Mathlib.Omega.{arith}
 use lib.ListN.{length, getD}
-use Rattle.soundness.specs.Leaves.{Leaf, Ascends}
+use Rattle.soundness.specs.Leaves.{Ascends}
 use Rattle.soundness.specs.Inner.{Below}
-
-leaf-at : (L : List ℕ) (i : ℕ) → i < length L → Leaf L (getD L i 0)
-leaf-at [] i h = absurd (omega arith)
-leaf-at (x ∷ L) zero h = inl refl
-leaf-at (x ∷ L) (suc i) h = inr (leaf-at L i (omega arith))
-
-ascends-at : (L : List ℕ) → Ascends L → (i j : ℕ) → i ≤ j → j < length L → getD L i 0 ≤ getD L j 0
-ascends-at [] a i j l h = absurd (omega arith)
-ascends-at (x ∷ L) a zero zero l h = omega arith
-ascends-at (x ∷ L) a zero (suc j) l h = omega (arith, a .0 (getD L j 0) (leaf-at L j (omega arith)))
-ascends-at (x ∷ L) a (suc i) zero l h = absurd (omega arith)
-ascends-at (x ∷ L) a (suc i) (suc j) l h = ascends-at L (a .1) i j (omega arith) (omega arith)
+use Rattle.soundness.proofs.Leaves.{asc-le}
 
 -- where the search stands: those before lo are less than the key, those from hi on are not
 pub record Halved (L : List ℕ) (key lo hi : ℕ) : Type 0 where
@@ -37,7 +25,7 @@ module _ (L : List ℕ) (key lo hi mid : ℕ) (a : Ascends L) (p : Halved L key 
       record {
         order = omega arith;
         upto = p .upto;
-        less = λ i l. omega (arith, ascends-at L a i mid (omega arith) (omega (arith, p .upto)));
+        less = λ i l. omega (arith, asc-le L a i mid (omega arith) (omega (arith, p .upto)));
         rest = p .rest;
       }
 
@@ -47,7 +35,7 @@ module _ (L : List ℕ) (key lo hi mid : ℕ) (a : Ascends L) (p : Halved L key 
         order = low;
         upto = omega (arith, p .upto);
         less = p .less;
-        rest = λ i l k. omega (arith, ascends-at L a mid i l k);
+        rest = λ i l k. omega (arith, asc-le L a mid i l k);
       }
 
 pub halved-done : (L : List ℕ) (key lo hi : ℕ) → Halved L key lo hi → hi ≤ lo → Below L key lo

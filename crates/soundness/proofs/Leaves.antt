@@ -1,7 +1,7 @@
 -- What leaves that cover say of a cell: it is a leaf, or leaves are inside it, or it is inside one; and how a search tells.
 --
 --   leaf-at, at-leaf           == a leaf by its index, and the index of a leaf
---   asc-at                     == ascending, by index
+--   asc-at, asc-le             == ascending, by index
 --   one-holder, in-one         == leaves that hold one place are one, a leaf inside a leaf is that leaf
 --   leaves-apart               == two leaves lie apart
 --   holder-key                 == the leaf that holds g is the last one below 32 * (g + 1)
@@ -71,6 +71,13 @@ asc-at (x ∷ L) a zero zero l h = absurd (omega arith)
 asc-at (x ∷ L) a zero (suc j) l h = a .0 (getD L j 0) (leaf-at L j (omega arith))
 asc-at (x ∷ L) a (suc i) zero l h = absurd (omega arith)
 asc-at (x ∷ L) a (suc i) (suc j) l h = asc-at L (a .1) i j (omega arith) (omega arith)
+
+pub asc-le : (L : List ℕ) → Ascends L → (i j : ℕ) → i ≤ j → j < length L → getD L i 0 ≤ getD L j 0
+asc-le L a i j l h =
+    ⊎-elim
+    (λ (k : j ≤ i). let e : i ≡ j = omega arith in omega (arith, ap (λ (n : ℕ). getD L n 0) e))
+    (λ (k : i < j). omega (arith, asc-at L a i j k h))
+    (le-or-lt j i)
 
 module _ (S Q : ℕ) (L : List ℕ) (C : Covers S Q L) where
   pub one-holder : (x y g : ℕ) → Leaf L x → Leaf L y → Holds x g → Holds y g → x ≡ y
@@ -203,15 +210,8 @@ module _ (S Q : ℕ) (L : List ℕ) (C : Covers S Q L) (c r : ℕ) (w : CodeOn S
       let n = at-leaf L x (b .is) in
       let rn : r ≤ n .at = ⊎-elim (λ h. h) (λ h. absurd (omega (arith, B .less (n .at) h, n .is))) (le-or-lt r (n .at)) in
       let low : r < length L = omega (arith, n .low) in
-      let up : getD L r 0 ≤ x =
-      ⊎-elim
-      (λ h. omega (arith, ap (λ (j : ℕ). getD L j 0) (r-same (n .at) rn h), n .is))
-      (λ h. omega (arith, asc-at L (C .ascend) r (n .at) h (n .low), n .is))
-      (le-or-lt (n .at) r) in
+      let up : getD L r 0 ≤ x = omega (arith, asc-le L (C .ascend) r (n .at) rn (n .low), n .is) in
       (low, omega (arith, B .rest r (omega arith) low, b .holds .0))
-    where
-      r-same : (k : ℕ) → r ≤ k → k ≤ r → r ≡ k
-      r-same k a b = omega arith
 
 -- the leaves of two lists side by side, and of a part
 

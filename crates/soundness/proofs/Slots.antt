@@ -1,28 +1,23 @@
--- The leaves after a refine or a coarsen, by index, and what the moves in the slots come to: the new leaves, then zeros.
+-- The leaves after a refine or a coarsen, by index.
 --
---   refine-at, coarsen-at       == the new list: what stands before the index, the new leaves, what stands after
---   refine-length               == it has three leaves more
---   splitAt xs i n four         == the slots xs with the n leaves after the move: at i stand four codes for one
---   joinAt xs i n code          == the slots xs with the n leaves after the move: at i stands one code for four
---   refine-slots, coarsen-slots == these are the new leaves, padded with zeros
+--   refine-at, coarsen-at == the new list: what stands before the index, the new leaves, what stands after
+--   refine-length         == a refine gives three leaves more
 --
 -- Assumes nothing.
 use mathlib.Core.Bool.{Bool, false, cond}
-use mathlib.Core.List.{List, [], _∷_, _++_, append-assoc}
+use mathlib.Core.List.{List, [], _∷_, _++_}
 use mathlib.Core.Logic.{inl, inr}
 use mathlib.Core.Path.{_≡_, refl, sym, _∙_, ap}
-use Prim.Native.Nat.{ℕ, zero, suc, _+_, _-_, _<_, _≤_}
+use Prim.Native.Nat.{ℕ, zero, suc, _+_, _<_}
 use native.Mathlib.Omega.{arith}
 use lib.Dec.{eqb}
-use lib.ListN.{length, getD, take, drop, replicate, length-append, length-drop}
-use lib.Seq.{take-append-le, drop-append-le, drop-append-add, drop-append-seam, take-at, length-take-le}
+use lib.ListN.{length, getD, take, drop, length-append, length-drop}
+use lib.Seq.{length-take-le}
 use borrow.Author.Tests.{eq-eqb, ne-eqb}
 use Rattle.codes.specs.Places.{childCode}
-use Rattle.soundness.specs.Leaves.{Leaf, Ascends, pad}
+use Rattle.soundness.specs.Leaves.{Leaf, Ascends}
 use Rattle.soundness.specs.Changes.{children, expanded, refined, coarsened}
 use Rattle.soundness.proofs.Leaves.{leaf-at, at-leaf}
-
--- by index
 
 pub expand-none : (A : ℕ → Bool) (L : List ℕ) → ((y : ℕ) → Leaf L y → A y ≡ false) → expanded A L ≡ L
 expand-none A [] f = refl
@@ -59,64 +54,3 @@ coarsen-at (x ∷ L) c (suc i) a h e =
     let l : x < getD L i 0 = a .0 (getD L i 0) (leaf-at L i (omega arith)) in
     ap (λ (b : Bool). cond b (c ∷ drop 3 L) (x ∷ coarsened c L)) (ne-eqb (childCode c 0) x (λ f. omega arith))
     ∙ ap (λ (t : List ℕ). x ∷ t) (coarsen-at L c i (a .1) (omega arith) e)
-
--- in the slots
-
-abbrev pub splitAt : List ℕ → ℕ → ℕ → List ℕ → List ℕ
-splitAt xs i n four = take i xs ++ (four ++ (take (n - suc i) (drop (suc i) xs) ++ drop (n + 3) xs))
-
-abbrev pub joinAt : List ℕ → ℕ → ℕ → ℕ → List ℕ
-joinAt xs i n code =
-    take i xs ++ (code ∷ (take (n - suc (suc (suc (suc i)))) (drop (suc (suc (suc (suc i)))) xs) ++ (0 ∷ 0 ∷ 0 ∷ drop n xs)))
-
--- what is left of the leaves from k on
-rest-leaves : (L Z : List ℕ) (k : ℕ) → k ≤ length L → take (length L - k) (drop k (L ++ Z)) ≡ drop k L
-rest-leaves L Z k h =
-    ap (take (length L - k)) (drop-append-le k L Z h) ∙ take-at (drop k L) Z (length L - k) (length-drop k L)
-
-module _ (L : List ℕ) (m i : ℕ) (a : Ascends L) (h : i < length L) where
-  pub refine-slots : 3 ≤ m →
-      splitAt (L ++ replicate m 0) i (length L) (children (getD L i 0)) ≡ pad (length L + m) (refined (getD L i 0) L)
-  refine-slots r =
-      let Z : List ℕ = replicate m 0 in
-      let x = getD L i 0 in
-      let K = children x in
-      let D = drop (suc i) L in
-      let e1 : take i (L ++ Z) ≡ take i L = take-append-le i L Z (omega arith) in
-      let e2 = rest-leaves L Z (suc i) h in
-      let e3 : drop (length L + 3) (L ++ Z) ≡ drop 3 Z = drop-append-add L Z 3 in
-      let e4 : drop 3 Z ≡ replicate (m - 3) 0 = drop-zeros m r in
-      let len = refine-length L x a (leaf-at L i h) in
-      let n : length L + m - length (refined x L) ≡ m - 3 = omega arith in
-      ap (λ (t : List ℕ). t ++ (K ++ (take (length L - suc i) (drop (suc i) (L ++ Z)) ++ drop (length L + 3) (L ++ Z)))) e1
-      ∙ ap (λ (t : List ℕ). take i L ++ (K ++ (t ++ drop (length L + 3) (L ++ Z)))) e2
-      ∙ ap (λ (t : List ℕ). take i L ++ (K ++ (D ++ t))) (e3 ∙ e4)
-      ∙ ap (λ (t : List ℕ). take i L ++ t) (sym (append-assoc K D (replicate (m - 3) 0)))
-      ∙ sym (append-assoc (take i L) (K ++ D) (replicate (m - 3) 0))
-      ∙ ap (λ (t : List ℕ). t ++ replicate (m - 3) 0) (sym (refine-at L i a h))
-      ∙ ap (λ (k : ℕ). refined x L ++ replicate k 0) (sym n)
-    where
-      drop-zeros : (m : ℕ) → 3 ≤ m → _≡_ {A = List ℕ} (drop 3 (replicate m 0)) (replicate (m - 3) 0)
-      drop-zeros zero r = absurd (omega arith)
-      drop-zeros (suc zero) r = absurd (omega arith)
-      drop-zeros (suc (suc zero)) r = absurd (omega arith)
-      drop-zeros (suc (suc (suc m))) r =
-          let e : m ≡ suc (suc (suc m)) - 3 = omega arith in
-          ap (λ (k : ℕ). replicate {A = ℕ} k 0) e
-
-  pub coarsen-slots : (c : ℕ) → getD L i 0 ≡ childCode c 0 → i + 4 ≤ length L → length (coarsened c L) + 3 ≡ length L →
-      joinAt (L ++ replicate m 0) i (length L) c ≡ pad (length L + m) (coarsened c L)
-  coarsen-slots c e r len =
-      let Z : List ℕ = replicate m 0 in
-      let j = suc (suc (suc (suc i))) in
-      let D = drop j L in
-      let e1 : take i (L ++ Z) ≡ take i L = take-append-le i L Z (omega arith) in
-      let e2 = rest-leaves L Z j (omega arith) in
-      let e3 : drop (length L) (L ++ Z) ≡ Z = drop-append-seam L Z in
-      let n : length L + m - length (coarsened c L) ≡ suc (suc (suc m)) = omega arith in
-      ap (λ (t : List ℕ). t ++ (c ∷ (take (length L - j) (drop j (L ++ Z)) ++ (0 ∷ 0 ∷ 0 ∷ drop (length L) (L ++ Z))))) e1
-      ∙ ap (λ (t : List ℕ). take i L ++ (c ∷ (t ++ (0 ∷ 0 ∷ 0 ∷ drop (length L) (L ++ Z))))) e2
-      ∙ ap (λ (t : List ℕ). take i L ++ (c ∷ (D ++ (0 ∷ 0 ∷ 0 ∷ t)))) e3
-      ∙ sym (append-assoc (take i L) (c ∷ D) (0 ∷ 0 ∷ 0 ∷ Z))
-      ∙ ap (λ (t : List ℕ). t ++ (0 ∷ 0 ∷ 0 ∷ Z)) (sym (coarsen-at L c i a h e))
-      ∙ ap (λ (k : ℕ). coarsened c L ++ replicate k 0) (sym n)

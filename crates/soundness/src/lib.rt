@@ -1,14 +1,15 @@
 // Soundness of a mesh as mathematics: what a sound mesh is, what changes do to it, what its sides meet. No code but the type
-// of what a side meets.
+// of what a side meets and the test of a set of faces.
 
 ghost use mathlib.Core.List.{List};
 ghost use mathlib.Core.Path.{_≡_};
 ghost use Prim.Native.Nat.{ℕ, _+_, _<_, _≤_};
 ghost use lib.ListN.{length};
 ghost use Rattle.solids.specs.Solids.{Known};
+ghost use Rattle.refusals.specs.Answers.{Tells};
 ghost use Rattle.codes.specs.Codes.{depth};
 ghost use Rattle.codes.specs.Places.{CodeOn, childCode};
-ghost use Rattle.soundness.specs.Regions.{allFaces, FaceSet};
+ghost use Rattle.soundness.specs.Regions.{InFaces, allFaces, FaceSet};
 ghost use Rattle.soundness.specs.Leaves.{Leaf, leaves, pad};
 ghost use Rattle.soundness.specs.Soundness.{Level, Mesh, Sound};
 ghost use Rattle.soundness.specs.Changes.{freshLeaves, refined, coarsened};
@@ -22,6 +23,14 @@ pub enum Met {
     Equal(u64),
     Smaller(u64, u64),
     Open,
+}
+
+// Whether the face of a place is in the set, a number with one bit for each face.
+pub fn in_faces(faces: u64, place: u64) -> bool
+    ensures { λ r. ⌜ Tells r (InFaces faces place) ⌝ }
+{
+    let face = (place >> 52) % 32;
+    (faces >> face) % 2 == 1
 }
 
 // Theorems. Each function has an empty body and stands for what it ensures, so that the gate asks for it by name.

@@ -19,8 +19,8 @@ use Rattle.codes.specs.Places.{place, past, base, end, CodeOn}
 use Rattle.soundness.specs.Regions.{InFaces}
 use Rattle.soundness.specs.Inner.{Next, Tiles, Tiling}
 use Rattle.soundness.proofs.Tiles.{gap-refl, tiles-le, tiles-further, tiles-snoc}
+use Rattle.soundness.proofs.Prefixes.{prefix-one, fits}
 use Rattle.tiling.specs.Tiling.{Skipped, Begins, Counts}
-use Rattle.tiling.proofs.Prefixes.{prefix-one, fits}
 
 pub record Pass (S Q : ℕ) (xs : List ℕ) (w i : ℕ) : Type 0 where
   pub index : i ≤ length xs
@@ -62,7 +62,7 @@ module _ (S Q : ℕ) (known : Known S) (xs : List ℕ) where
   pass-none : (w i : ℕ) → Pass S Q xs w i → w < end S → (i < length xs → Begins (getD xs i 0) w → ⊥) →
       (m : ℕ) → m ≤ length xs → Tiling S Q (take m xs) → ⊥
   pass-none w i p h n m l t =
-      let f = fits S Q xs w i m (p .index) l (p .tiles) (pass-in w i p h) h t in
+      let f = fits S Q xs w i m l (p .tiles) (pass-in w i p h) h t in
       n (omega (arith, f .more)) (record { at = f .at; deep = f .cell .deep; tail = f .cell .tail })
 
   pub pass-zero : (w i : ℕ) → Pass S Q xs w i → w < end S → (i < length xs → Begins (getD xs i 0) w → ⊥) → Counts S Q xs 0

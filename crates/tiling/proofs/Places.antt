@@ -1,4 +1,4 @@
--- Places by words: the bit of a face, the next face, the digits after the last, the ends of a solid.
+-- Places by words: the next face, the digits after the last, the ends of a solid.
 -- Assumes nothing.
 use mathlib.Core.Path.{_≡_, ap, sym, _∙_, subst}
 use Prim.Native.Nat.{ℕ, _+_, _-_, _*_, _/_, _%_, _^_, _<_, _≤_}
@@ -11,17 +11,12 @@ use lib.Pow.{pow-mono}
 use Rattle.solids.specs.Solids.{Known, solidOf, faces}
 use Rattle.solids.proofs.Numbers.{faces-few}
 use Rattle.refusals.specs.Answers.{Tells}
-use Rattle.refusals.proofs.Answers.{tells-eq}
 use Rattle.codes.specs.Codes.{depth, size}
 use Rattle.codes.specs.Places.{place, base, end}
 use Rattle.codes.proofs.Sizes.{size-pos, size-two}
-use Rattle.soundness.specs.Regions.{faceOf, InFaces}
+use Rattle.soundness.specs.Regions.{InFaces}
 use Rattle.soundness.specs.Inner.{Gap}
 use Rattle.tiling.specs.Tiling.{Begins}
-
-pub face-test : (Q g : ℕ) → Tells (eqb (Q / 2 ^ faceOf g % 2) 1) (InFaces Q g)
-unfolding InFaces
-face-test Q g = tells-eq (Q / 2 ^ faceOf g % 2) 1
 
 -- the face of p is not in the set: nothing of the set up to the next face
 pub face-gap : (Q p : ℕ) → (InFaces Q p → ⊥) → Gap Q p ((p / 2 ^ 52 + 1) * 2 ^ 52)

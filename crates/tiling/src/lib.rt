@@ -5,7 +5,6 @@ ghost use Prim.Native.Nat.{_%_, _^_, _<_, _≤_};
 ghost use Rattle.solids.specs.Solids.{Known};
 ghost use Rattle.refusals.specs.Answers.{Tells};
 ghost use Rattle.codes.specs.Codes.{size};
-ghost use Rattle.soundness.specs.Regions.{InFaces};
 ghost use Rattle.tiling.specs.Tiling.{Skipped, Begins, Counts};
 
 // The size of a cell, in places.
@@ -16,14 +15,6 @@ pub fn size_of(depth: u64) -> u64
     1 << (52 - 2 * depth)
 }
 
-// Whether the face of a place is in the set.
-fn in_faces(faces: u64, place: u64) -> bool
-    ensures { λ r. ⌜ Tells r (InFaces faces place) ⌝ }
-{
-    let face = (place >> 52) % 32;
-    (faces >> face) % 2 == 1
-}
-
 // The first place of the set from `place` on; `last` if there is none below it.
 fn next_place(faces: u64, last: u64, place: u64) -> u64
     requires { ⌜ (place ≤ last) × (last < 2 ^ 60) × (last % 2 ^ 52 ≡ 0) ⌝ }
@@ -31,7 +22,7 @@ fn next_place(faces: u64, last: u64, place: u64) -> u64
 {
     let mut p = place;
     while p < last {
-        if in_faces(faces, p) {
+        if soundness::in_faces(faces, p) {
             return p;
         }
         p = ((p >> 52) + 1) << 52;

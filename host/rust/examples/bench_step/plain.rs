@@ -5,7 +5,7 @@
 //! mirrored) is looked up in rows instead.
 
 /// By solid; no code has solid 0.
-static FACES: [u64; 4] = [0, 4, 8, 20];
+pub static FACES: [u64; 4] = [0, 4, 8, 20];
 
 /// By solid, direction and face.
 static NEXT_FACE: [[[u8; 20]; 3]; 4] = [
@@ -95,7 +95,8 @@ pub extern "C" fn step(code: u64, direction: u64) -> u64 {
     over_seam(code, direction, walked)
 }
 
-fn refusal(code: u64, direction: u64) -> u64 {
+/// The number of the first refusal, or 0.
+pub fn refusal(code: u64, direction: u64) -> u64 {
     let (solid, face, depth) = (code >> 62, code >> TOP & 31, code & DEPTH_BITS);
     if solid == 0 {
         return 1;
@@ -115,7 +116,8 @@ fn refusal(code: u64, direction: u64) -> u64 {
     0
 }
 
-fn over_seam(code: u64, direction: u64, walked: u64) -> u64 {
+/// The code on the next face; `walked` has what the walk left of the path.
+pub fn over_seam(code: u64, direction: u64, walked: u64) -> u64 {
     let (solid, face) = ((code >> 62) as usize, code >> TOP & 31);
     let next_face = u64::from(NEXT_FACE[solid][direction as usize][face as usize]);
     let mirrored = code ^ (code & LOW_BITS) << 1;
