@@ -251,7 +251,7 @@ fn random_series_of_calls_answer_and_write_as_by_the_model() {
     let mut numbers = [Vec::new(), Vec::new(), Vec::new()];
     for (solid, length) in SOLIDS.into_iter().flat_map(|solid| [22, 40, 70, 130].map(|length| (solid, length))) {
         let mut slots = fresh_mesh(solid, length);
-        for _ in 0..900 {
+        for _ in 0..1_500 {
             let change = random_change(&mut random, &slots);
             let of_call = match change {
                 Change::Fresh(_) => 0,
@@ -313,7 +313,7 @@ fn dive(slots: &mut [u64], target: &Cell) {
     }
 }
 
-/// Dives, is refused to go deeper, answers all questions and comes back by coarsening, until no leaf is deeper than 22.
+/// Dives, is refused to go deeper, answers all questions and comes back by coarsening, until no leaf is deeper than 24.
 fn dive_and_come_back(target: Cell) {
     let mut slots = vec![0; 500];
     urdinhosa::fresh(&mut slots, target.solid).expect("there is room");
@@ -325,7 +325,7 @@ fn dive_and_come_back(target: Cell) {
     for direction in DIRECTIONS {
         assert_eq!(compare_across(&slots, deepest, direction), 0);
     }
-    let is_deep = |leaf: &u64| leaf % 32 > 22;
+    let is_deep = |leaf: &u64| leaf % 32 > 24;
     while let Some(leaf) = mesh::leaves_in(&slots).into_iter().filter(is_deep).max_by_key(|leaf| leaf % 32) {
         let parent = codes::parent(leaf).expect("a deep cell");
         assert_eq!(compare_change(&mut slots, Change::Coarsen(parent)), 0, "nothing is deeper than {:#018x}", leaf);

@@ -112,10 +112,13 @@ fn lies_on(point: &Weights, [a, b]: &Side) -> bool {
         let (low, high) = (a[vertex].min(b[vertex]), a[vertex].max(b[vertex]));
         low <= point[vertex] && point[vertex] <= high
     };
+    if !(0..12).all(is_between) {
+        return false;
+    }
     let walked = |vertex: usize| point[vertex].abs_diff(a[vertex]);
     let whole_way = |vertex: usize| a[vertex].abs_diff(b[vertex]);
     let moving = (0..12).find(|&vertex| whole_way(vertex) > 0).expect("the ends of a side are two points");
-    (0..12).all(|vertex| is_between(vertex) && walked(vertex) * whole_way(moving) == walked(moving) * whole_way(vertex))
+    (0..12).all(|vertex| walked(vertex) * whole_way(moving) == walked(moving) * whole_way(vertex))
 }
 
 /// The leaves that share a stretch of one side of a leaf.
