@@ -1,24 +1,9 @@
 //! The calls as the library has them, proved.
 
 use crate::calls::{Answer, Call, Refusal};
-use urdinhosa as _; // it links the library
-
-extern "C" {
-    fn urdinhosa_sound(slots: *const u64, length: usize) -> bool;
-    fn urdinhosa_fresh(slots: *mut u64, length: usize, solid: u64) -> u64;
-    fn urdinhosa_refine(slots: *mut u64, length: usize, leaf: u64, blocker: *mut u64) -> u64;
-    fn urdinhosa_coarsen(slots: *mut u64, length: usize, cell: u64, blocker: *mut u64) -> u64;
-    fn urdinhosa_across(
-        slots: *const u64,
-        length: usize,
-        leaf: u64,
-        direction: u64,
-        level: *mut i64,
-        first: *mut u64,
-        second: *mut u64,
-    ) -> u64;
-    fn urdinhosa_run(slots: *const u64, length: usize, cell: u64, start: *mut usize, count: *mut usize) -> u64;
-}
+use urdinhosa::c::{
+    urdinhosa_across, urdinhosa_coarsen, urdinhosa_fresh, urdinhosa_refine, urdinhosa_run, urdinhosa_sound,
+};
 
 /// Whether it was made.
 pub fn fresh(slots: &mut [u64], solid: u64) -> bool {

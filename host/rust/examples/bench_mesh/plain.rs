@@ -159,7 +159,7 @@ impl<'a> Mesh<'a> {
 
     fn find(&self, leaf: u64) -> Option<usize> {
         let at = self.below(leaf);
-        (self.leaves.get(at) == Some(&leaf)).then(|| at)
+        (self.leaves.get(at) == Some(&leaf)).then_some(at)
     }
 
     fn under(&self, cell: u64) -> Range<usize> {
