@@ -387,6 +387,16 @@ fn deep() {
     run(&m, 0x4000_0000_0000_0000);
 }
 
+// Inner functions on some faces of a solid alone: every call on a mesh takes all of them.
+fn some_faces() {
+    text(b"tiles 3 20000 : e200000000000000 ->");
+    shown(tiling::tile_count(&[0xe200_0000_0000_0000], 0x2_0000, 3) as u64);
+    text(b"\nfaces 1 5");
+    let mut m = [7u64; 6];
+    leaves::fresh_into(&mut m, 1, 5);
+    left_shown(&m);
+}
+
 fn answer_shown(call: &[u8], change: Change, first: u64) {
     text(call);
     change_shown(change);
@@ -431,6 +441,7 @@ fn main() {
     damages();
     levels();
     shifted();
+    some_faces();
     deep();
     long();
     full();
