@@ -198,19 +198,22 @@ fn case_12() {
     coarsen(&mut m, 0x4600_0000_0000_0000);
 }
 
-// A coarsen with a smaller leaf beside one child alone, each child in turn.
+// Coarsens of the first face: a smaller leaf beside its first child alone, beside its fourth alone, and its fourth divided.
 fn one_child_blocked() {
-    let mut m = [0u64; 20];
-    fresh(&mut m, 2);
-    refine(&mut m, 0x8000_0000_0000_0000);
-    refine(&mut m, 0x8800_0000_0000_0000);
-    refine(&mut m, 0x8880_0000_0000_0001);
-    coarsen(&mut m, 0x8000_0000_0000_0000);
-    coarsen(&mut m, 0x8880_0000_0000_0001);
-    refine(&mut m, 0x8980_0000_0000_0001);
-    refine(&mut m, 0x8a00_0000_0000_0000);
-    refine(&mut m, 0x8980_0000_0000_0001);
-    coarsen(&mut m, 0x8000_0000_0000_0000);
+    let mut m = [0u64; 19];
+    fresh(&mut m, 1);
+    refine(&mut m, 0x4000_0000_0000_0000);
+    refine(&mut m, 0x4200_0000_0000_0000);
+    refine(&mut m, 0x4400_0000_0000_0000);
+    refine(&mut m, 0x4600_0000_0000_0000);
+    refine(&mut m, 0x4280_0000_0000_0001);
+    coarsen(&mut m, 0x4000_0000_0000_0000);
+    coarsen(&mut m, 0x4280_0000_0000_0001);
+    refine(&mut m, 0x4200_0000_0000_0001);
+    coarsen(&mut m, 0x4000_0000_0000_0000);
+    coarsen(&mut m, 0x4200_0000_0000_0001);
+    refine(&mut m, 0x4180_0000_0000_0001);
+    coarsen(&mut m, 0x4000_0000_0000_0000);
 }
 
 // Each call but fresh.
@@ -387,6 +390,16 @@ fn deep() {
     run(&m, 0x4000_0000_0000_0000);
 }
 
+// Inner functions on some faces of a solid alone: every call on a mesh takes all of them.
+fn some_faces() {
+    text(b"tiles 3 20000 : e200000000000000 ->");
+    shown(tiling::tile_count(&[0xe200_0000_0000_0000], 0x2_0000, 3) as u64);
+    text(b"\nfaces 1 5");
+    let mut m = [7u64; 6];
+    leaves::fresh_into(&mut m, 1, 5);
+    left_shown(&m);
+}
+
 fn answer_shown(call: &[u8], change: Change, first: u64) {
     text(call);
     change_shown(change);
@@ -431,6 +444,7 @@ fn main() {
     damages();
     levels();
     shifted();
+    some_faces();
     deep();
     long();
     full();
