@@ -1,4 +1,5 @@
-pub mod Search
-pub mod Zeros
 pub mod Moves
+pub mod Search
+pub mod Signs
 pub mod Slots
+pub mod Zeros

@@ -1,5 +1,6 @@
 -- What is asked of slots, and what is done to them; `xs` are the slots, and the first `n` of them are in use.
 --
+--   Less a b r              == r is 1 where a is less than b, else 0
 --   ZerosFrom xs n          == from n on every slot is zero
 --   clearedFrom xs n        == xs with zeros from n on
 --   opened xs at n          == the slots from `at` up to n, moved up three
@@ -9,9 +10,13 @@
 --
 -- Assumes nothing.
 use mathlib.Core.List.{List, _∷_, _++_}
+use mathlib.Core.Logic.{_⊎_}
 use mathlib.Core.Path.{_≡_}
-use Prim.Native.Nat.{ℕ, _+_, _-_}
+use Prim.Native.Nat.{ℕ, _+_, _-_, _<_, _≤_}
 use lib.ListN.{length, take, drop, replicate}
+
+abbrev pub Less : ℕ → ℕ → ℕ → Type 0
+Less a b r = ((r ≡ 1) × (a < b)) ⊎ ((r ≡ 0) × (b ≤ a))
 
 -- "then only zeros"
 abbrev pub ZerosFrom : List ℕ → ℕ → Type 0

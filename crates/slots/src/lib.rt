@@ -6,24 +6,30 @@ ghost use lib.ListN.{length, take};
 ghost use Rattle.refusals.specs.Answers.{Tells};
 ghost use Rattle.soundness.specs.Leaves.{Ascends};
 ghost use Rattle.soundness.specs.Inner.{Below};
-ghost use Rattle.slots.specs.Slots.{ZerosFrom, clearedFrom, opened, splitAt, closed, joinAt};
+ghost use Rattle.slots.specs.Slots.{Less, ZerosFrom, clearedFrom, opened, splitAt, closed, joinAt};
+
+// 1 where a is less than b, else 0, by the sign of a difference: no processor guesses the way of a branch on such a
+// comparison in a search. The difference of two 64-bit numbers has no sign to read, that of their halves has.
+fn less(a: u64, b: u64) -> usize
+    ensures { λ r. ⌜ Less a b r ⌝ }
+{
+    let odd = b % 2;
+    (std::num::wrapping_sub_u64(a / 2 + a % 2 * odd, b / 2 + odd) >> 63) as usize
+}
 
 // How many of the first `n` slots, which ascend, are less than the key; `n` if all are.
 pub fn below(slots: &[u64], n: usize, key: u64) -> usize
     requires { ⌜ (n ≤ length (now slots)) × Ascends (take n (now slots)) ⌝ }
     ensures { λ r. ⌜ Below (take n (now (slots .entry))) key r ⌝ }
 {
-    let mut lo = 0;
-    let mut hi = n;
-    while lo < hi {
-        let mid = lo + (hi - lo) / 2;
-        if slots[mid] < key {
-            lo = mid + 1;
-        } else {
-            hi = mid;
-        }
+    let mut from = 0;
+    let mut left = n;
+    while 0 < left {
+        let half = left - left / 2;
+        from += half * less(slots[from + half - 1], key);
+        left -= half;
     }
-    lo
+    from
 }
 
 // Whether every slot from `n` on is zero; yes if there is none.
