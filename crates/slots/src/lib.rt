@@ -14,7 +14,7 @@ fn less(a: u64, b: u64) -> usize
     ensures { λ r. ⌜ Less a b r ⌝ }
 {
     let odd = b % 2;
-    (std::num::wrapping_sub_u64(a / 2 + a % 2 * odd, b / 2 + odd) >> 63) as usize
+    (std::num::wrapping_sub_u64(a / 2 + (a & odd), b / 2 + odd) >> 63) as usize
 }
 
 // How many of the first `n` slots, which ascend, are less than the key; `n` if all are.

@@ -7,9 +7,6 @@ use Rattle.slots.proofs.Signs.{bit-most, less-told}
 use Rattle.slots.proofs.less.Statement.{statement}
 use Rattle.slots.proofs.less.Tie as tie
 
-mul-wrapping-sub-u64 : tie.Need-mul-wrapping-sub-u64
-mul-wrapping-sub-u64 c = omega (arith, bit-most (c .args .a) (c .args .b % 2) (omega arith))
-
 add-wrapping-sub-u64 : tie.Need-add-wrapping-sub-u64
 add-wrapping-sub-u64 c = omega (arith, bit-most (c .args .a) (c .args .b % 2) (omega arith))
 
@@ -26,7 +23,6 @@ pub less-spec : {M : Type 1} → statement M
 less-spec =
     tie.close
     (tie.spec
-    mul-wrapping-sub-u64
     add-wrapping-sub-u64
     add-wrapping-sub-u64-2
     wrapping-sub-u64-requires
