@@ -25,7 +25,8 @@ pub part-most : {a b : ℕ} (half r : ℕ) → Less a b r → half * r ≤ half
 part-most half r (inl (e, l)) = omega (arith, ap (λ (k : ℕ). half * k) e)
 part-most half r (inr (e, l)) = omega (arith, ap (λ (k : ℕ). half * k) e)
 
--- of what is left the half up to `mid` is settled when that is less than the key, and else what stands from `mid` on
+-- of what is left the first half is passed over when its last slot is less than the key; else what stands from that slot on is
+-- settled
 module _ (L : List ℕ) (key lo left half : ℕ) (a : Ascends L) (p : Halved L key lo (lo + left)) (some : 0 < left) (h : half ≡ left - left / 2) where
   pub halved : (r : ℕ) → Less (getD L (lo + half - 1) 0) key r → Halved L key (lo + half * r) (lo + half * r + (left - half))
   halved r (inl (e, l)) = rw e (record {
