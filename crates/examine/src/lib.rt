@@ -16,7 +16,7 @@ pub enum Seen {
 }
 
 // The most slots that a mesh may have.
-const SLOTS: usize = 8192;
+pub const SLOTS: usize = 8192;
 
 // All faces of a solid, a bit for each.
 pub fn all_faces(solid: u64) -> u64

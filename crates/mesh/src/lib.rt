@@ -46,9 +46,6 @@ pub enum Counted {
     Refused(u64),
 }
 
-// The most slots that a mesh may have.
-const SLOTS: usize = 8192;
-
 // All faces of the solid of a sound mesh.
 fn faces_in(slots: &[u64]) -> u64
     requires { ⌜ SoundIn (wholeOf (now slots)) (now slots) ⌝ }
@@ -72,7 +69,7 @@ pub fn sound(slots: &[u64]) -> bool
 pub fn fresh(slots: &mut [u64], solid: u64) -> Change
     ensures { λ r. ⌜ Freshened solid (allFaces solid) (now (slots .entry)) (outcome (changeReply r) (now (slots .exit))) ⌝ }
 {
-    if SLOTS < slots.len() {
+    if examine::SLOTS < slots.len() {
         return Change::Refused(refusals::BUFFER);
     }
     if solid < 1 {

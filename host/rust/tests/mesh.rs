@@ -3,7 +3,7 @@
 mod model;
 
 use model::codes::{
-    self, Cell, BLOCKED, BUFFER, DEEP, DEEPEST, DEPTH, DIRECTION, FACE, MESH, NOT_FOUR, NOT_LEAF, ROOM, SOLID, TAIL,
+    self, Cell, BLOCKED, BUFFER, DEEP, DEEPEST, DIRECTION, FAULTY, MESH, NOT_FOUR, NOT_LEAF, ROOM, SOLID,
 };
 use model::mesh::{self, Refused, Triangle, MOST_SLOTS};
 use model::random::Random;
@@ -553,14 +553,7 @@ fn each_kind_of_damage_to_the_listed_mesh_is_refused_by_every_call() {
 
 #[test]
 fn the_codes_faults_in_their_sequence_come_after_the_mesh_and_before_all_else() {
-    // each has all the faults after its own as well
-    let faulty = [
-        (0x3fff_ffff_ffff_ffff, SOLID),
-        (0x5fff_ffff_ffff_ffff, FACE),
-        (0x47ff_ffff_ffff_ffff, DEPTH),
-        (0x47ff_ffff_ffff_fff9, TAIL),
-    ];
-    for (code, number) in faulty {
+    for (code, number) in FAULTY {
         assert_eq!(number_of_every_call(&listed_mesh(7), code, 3), number);
     }
 }

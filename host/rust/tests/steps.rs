@@ -2,7 +2,7 @@
 
 mod model;
 
-use model::codes::{self, cells_to_depth, Cell, Parts, DEEPEST, DEPTH, DIRECTION, FACE, SOLID, TAIL};
+use model::codes::{self, cells_to_depth, Cell, Parts, DEEPEST, DIRECTION, FAULTY};
 use model::corners::{self, Corners, Weights};
 use model::random::{Random, ALONG};
 use model::solids::{self, SOLIDS};
@@ -343,14 +343,7 @@ fn each_solid_face_depth_and_single_path_bit_in_a_code_is_answered_as_by_the_mod
 
 #[test]
 fn the_codes_faults_in_their_sequence_come_before_the_direction() {
-    // each has all the faults after its own as well
-    let faulty = [
-        (0x3fff_ffff_ffff_ffff, SOLID),
-        (0x5fff_ffff_ffff_ffff, FACE),
-        (0x47ff_ffff_ffff_ffff, DEPTH),
-        (0x47ff_ffff_ffff_fff9, TAIL),
-    ];
-    for (code, number) in faulty {
+    for (code, number) in FAULTY {
         for direction in GOOD_AND_BAD_DIRECTIONS {
             assert_eq!(step(code, direction), Err(number), "{:#018x} in direction {}", code, direction);
         }

@@ -20,6 +20,14 @@ pub const ROOM: u64 = 15;
 
 pub const DEEPEST: u64 = 26;
 
+/// Numbers with the fault by which they are refused; each has all the faults after its own as well.
+pub const FAULTY: [(u64, u64); 4] = [
+    (0x3fff_ffff_ffff_ffff, SOLID),
+    (0x5fff_ffff_ffff_ffff, FACE),
+    (0x47ff_ffff_ffff_ffff, DEPTH),
+    (0x47ff_ffff_ffff_fff9, TAIL),
+];
+
 const FACES_IN_FIVE_BITS: u64 = 32;
 const PATHS_IN_52_BITS: u64 = 4_503_599_627_370_496;
 const DEPTHS_IN_FIVE_BITS: u64 = 32;
