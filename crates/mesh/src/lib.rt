@@ -46,8 +46,30 @@ pub enum Counted {
     Refused(u64),
 }
 
+// The answer of a call that changes a mesh, in parts.
+pub struct Told {
+    pub number: u64,
+    pub value: u64,
+}
+
+pub fn in_parts(change: Change) -> Told
+    ensures { λ r. ⌜ told (r .number) (r .value) ≡ changeReply change ⌝ }
+{
+    match change {
+        Change::Made => Told {
+            number: 0,
+            value: 0,
+        },
+        Change::Blocked(leaf) => Told {
+            number: refusals::BLOCKED,
+            value: leaf,
+        },
+        Change::Refused(number) => Told { number, value: 0 },
+    }
+}
+
 // All faces of the solid of a sound mesh.
-fn faces_in(slots: &[u64]) -> u64
+pub fn faces_in(slots: &[u64]) -> u64
     requires { ⌜ SoundIn (wholeOf (now slots)) (now slots) ⌝ }
     ensures { λ r. ⌜ r ≡ wholeOf (now (slots .entry)) ⌝ }
 {

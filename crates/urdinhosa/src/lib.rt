@@ -98,28 +98,6 @@ pub fn methods_agree(code: u64, direction: u64) -> bool
     urdinhosa_step(code, direction) == urdinhosa_walk(code, direction)
 }
 
-// The answer of a call that changes a mesh, in parts.
-struct Told {
-    number: u64,
-    value: u64,
-}
-
-fn in_parts(change: Change) -> Told
-    ensures { λ r. ⌜ told (r .number) (r .value) ≡ changeReply change ⌝ }
-{
-    match change {
-        Change::Made => Told {
-            number: 0,
-            value: 0,
-        },
-        Change::Blocked(leaf) => Told {
-            number: refusals::BLOCKED,
-            value: leaf,
-        },
-        Change::Refused(number) => Told { number, value: 0 },
-    }
-}
-
 #[no_mangle]
 pub extern "C" fn urdinhosa_sound(slots: &[u64]) -> bool
     ensures { λ r. ⌜ Tells r (SoundIn (wholeOf (now (slots .entry))) (now (slots .entry))) ⌝ }
@@ -131,14 +109,14 @@ pub extern "C" fn urdinhosa_sound(slots: &[u64]) -> bool
 pub extern "C" fn urdinhosa_fresh(slots: &mut [u64], solid: u64) -> u64
     ensures { λ r. ⌜ Freshened solid (allFaces solid) (now (slots .entry)) (outcome (told r 0) (now (slots .exit))) ⌝ }
 {
-    in_parts(mesh::fresh(slots, solid)).number
+    mesh::in_parts(mesh::fresh(slots, solid)).number
 }
 
 #[no_mangle]
 pub extern "C" fn urdinhosa_refine(slots: &mut [u64], leaf: u64, blocker: &mut u64) -> u64
     ensures { λ r. ⌜ Refined (wholeOf (now (slots .entry))) (now (slots .entry)) leaf (outcome (told r (now (blocker .exit))) (now (slots .exit))) ⌝ }
 {
-    let answer = in_parts(mesh::refine(slots, leaf));
+    let answer = mesh::in_parts(mesh::refine(slots, leaf));
     *blocker = answer.value;
     answer.number
 }
@@ -147,7 +125,7 @@ pub extern "C" fn urdinhosa_refine(slots: &mut [u64], leaf: u64, blocker: &mut u
 pub extern "C" fn urdinhosa_coarsen(slots: &mut [u64], cell: u64, blocker: &mut u64) -> u64
     ensures { λ r. ⌜ Coarsened (wholeOf (now (slots .entry))) (now (slots .entry)) cell (outcome (told r (now (blocker .exit))) (now (slots .exit))) ⌝ }
 {
-    let answer = in_parts(mesh::coarsen(slots, cell));
+    let answer = mesh::in_parts(mesh::coarsen(slots, cell));
     *blocker = answer.value;
     answer.number
 }
