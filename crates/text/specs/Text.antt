@@ -19,7 +19,7 @@ use Rattle.text.specs.declared.Reading.the-variants.{Number, Other}
 abbrev pub glyph : ℕ → ℕ
 glyph d = cond (ltb d 10) (48 + d) (87 + d)
 
-abbrev pub digits : ℕ → ℕ → ℕ → List ℕ
+unfoldable pub digits : ℕ → ℕ → ℕ → List ℕ
 digits b zero n = []
 digits b (suc k) n = digits b k (n / b) ++ (glyph (n % b) ∷ [])
 
