@@ -1,6 +1,7 @@
 -- What the calls on a mesh leave: the reply, and every slot of the lent slice.
 --
 --   Outcome        == a reply and the slots after the call
+--   told n v       == the reply of the number n and the value v
 --   changeReply e  == the number and value of each case of the enum Change
 --   Crossing       == number, level difference and two codes
 --   crossing m     == those of what a side meets
@@ -33,9 +34,12 @@ pub record Outcome : Type 0 where
 abbrev pub outcome : Reply → List ℕ → Outcome
 outcome r ys = record { reply = r; slots = ys }
 
+abbrev pub told : ℕ → ℕ → Reply
+told n v = record { number = n; value = v }
+
 -- "A refusal returns its number and 0 in every other part of the answer, except 14": the value is the least blocking leaf.
 abbrev pub blocked : ℕ → Reply
-blocked b = record { number = BLOCKED; value = b }
+blocked b = told BLOCKED b
 
 abbrev pub changeReply : Change → Reply
 changeReply change.Made = done 0

@@ -15,7 +15,7 @@ ghost use Rattle.soundness.specs.Leaves.{Leaf, leaves};
 ghost use Rattle.soundness.specs.Soundness.{Sound, SoundIn};
 ghost use Rattle.soundness.specs.Sides.{OneOrTwo};
 ghost use Rattle.examine.specs.Examined.{wholeOf};
-ghost use Rattle.mesh.specs.Answers.{outcome, changeReply, acrossReply, notCrossed, boundsReply, noBounds, countReply};
+ghost use Rattle.mesh.specs.Answers.{outcome, told, changeReply, acrossReply, notCrossed, boundsReply, noBounds, countReply};
 ghost use Rattle.mesh.specs.Calls.{kept, Held, Freshened, refineEnd, refineLeafEnd, Refined, coarsenEnd, coarsenLeavesEnd, Coarsened, acrossEnd, AcrossOf, boundsEnd, BoundsOf, RunOf, CountOf};
 ghost use Rattle.mesh.specs.Series.{Reach};
 use examine::Seen;
@@ -28,25 +28,7 @@ pub enum Change {
     Refused(u64),
 }
 
-// What lies across a side of a leaf, or the number of the refusal.
-pub enum Facing {
-    Side(Met),
-    Refused(u64),
-}
-
-// Where the run under a cell starts and how many leaves it has, or the number of the refusal.
-pub enum Extent {
-    Part(usize, usize),
-    Refused(u64),
-}
-
-// How many leaves are under a cell, or the number of the refusal.
-pub enum Counted {
-    Leaves(usize),
-    Refused(u64),
-}
-
-// The answer of a call that changes a mesh, in parts.
+// That answer in parts: the number, and the leaf in the way or 0.
 pub struct Told {
     pub number: u64,
     pub value: u64,
@@ -66,6 +48,24 @@ pub fn in_parts(change: Change) -> Told
         },
         Change::Refused(number) => Told { number, value: 0 },
     }
+}
+
+// What lies across a side of a leaf, or the number of the refusal.
+pub enum Facing {
+    Side(Met),
+    Refused(u64),
+}
+
+// Where the run under a cell starts and how many leaves it has, or the number of the refusal.
+pub enum Extent {
+    Part(usize, usize),
+    Refused(u64),
+}
+
+// How many leaves are under a cell, or the number of the refusal.
+pub enum Counted {
+    Leaves(usize),
+    Refused(u64),
 }
 
 // All faces of the solid of a sound mesh.

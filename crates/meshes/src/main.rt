@@ -31,11 +31,8 @@ fn answered(number: u64, value: u64) {
 }
 
 fn change_shown(change: Change) {
-    match change {
-        Change::Made => answered(0, 0),
-        Change::Blocked(leaf) => answered(14, leaf),
-        Change::Refused(k) => answered(k, 0),
-    }
+    let answer = mesh::in_parts(change);
+    answered(answer.number, answer.value);
 }
 
 fn left_shown(slots: &[u64]) {

@@ -3,7 +3,6 @@
 --   oneNumber a    == an answer as one number: the code, or else the refusal's
 --   Gives Q n      == n is that one number for an answer whose reply meets Q
 --   Writes x n out == n is the number, and out the four values, of the reply for unpacking x
---   told n v       == the reply with the number n and the value v
 --   toldSide n d b c, toldPart n a m == the answers of across and run from their parts
 --
 -- Assumes nothing.
@@ -37,9 +36,6 @@ pub record Writes (x n : ℕ) (out : List ℕ) : Type 0 where
   pub slots : out ≡ values answer
 
 -- the number is returned, the other parts are written
-abbrev pub told : ℕ → ℕ → Reply
-told n v = record { number = n; value = v }
-
 abbrev pub toldSide : ℕ → ℤ → ℕ → ℕ → Crossing
 toldSide n d b c = record { number = n; level = d; first = b; second = c }
 

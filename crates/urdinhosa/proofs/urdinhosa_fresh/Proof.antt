@@ -2,11 +2,10 @@
 -- Assumes nothing.
 use mathlib.Core.Path.{_≡_, ap, sym, _∙_, subst}
 use borrow.Author.Needs.{needs}
-use Rattle.mesh.specs.Answers.{outcome, changeReply}
+use Rattle.mesh.specs.Answers.{outcome, changeReply, told}
 use Rattle.mesh.specs.Calls.{Freshened}
 use Rattle.refusals.specs.Answers.{Reply}
 use Rattle.soundness.specs.Regions.{allFaces}
-use Rattle.urdinhosa.specs.Exports.{told}
 use Rattle.urdinhosa.proofs.Exports.{fresh-value}
 use Rattle.urdinhosa.proofs.urdinhosa_fresh.Statement.{statement}
 use Rattle.urdinhosa.proofs.urdinhosa_fresh.Tie as tie

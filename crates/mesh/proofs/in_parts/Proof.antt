@@ -2,9 +2,9 @@
 -- Assumes nothing.
 use mathlib.Core.Path.{ap, sym}
 use borrow.Author.Needs.{needs}
 use Rattle.mesh.specs.Answers.{changeReply}
-use Rattle.urdinhosa.proofs.in_parts.Statement.{statement}
-use Rattle.urdinhosa.proofs.in_parts.Tie as tie
+use Rattle.mesh.proofs.in_parts.Statement.{statement}
+use Rattle.mesh.proofs.in_parts.Tie as tie
 
 enum-told : tie.Need-enum-told
 enum-told c = search needs
