@@ -4,6 +4,7 @@
 --   orderLine l c     == the line of an order: the letter l, a space, the 16 hexadecimal digits of c
 --   SolidFirst bs d   == the bytes begin with the solid line of d
 --   OrderFirst bs l c == the bytes begin with the order line of l and c
+--   Done l xs c o     == o is the outcome of the order l and c on the mesh in the slots xs
 --   unreadable        == the line `unreadable`
 --   answer k          == what a call with the number k prints
 --   difference m      == the level difference of what a side meets, after a space
@@ -15,7 +16,7 @@
 -- Assumes nothing.
 use mathlib.Core.Bool.{cond}
 use mathlib.Core.List.{List, [], _∷_, _++_}
-use mathlib.Core.Logic.{_≢_}
+use mathlib.Core.Logic.{_⊎_, _≢_}
 use mathlib.Core.Path.{_≡_}
 use Prim.Native.Nat.{ℕ, zero, suc, _+_, _^_, _<_, _≤_}
 use lib.Dec.{ltb}
@@ -55,8 +56,12 @@ pub record SolidFirst (bytes : List ℕ) (d : ℕ) : Type 0 where
   pub is : bytes ≡ solidLine d ++ drop 2 bytes
 
 pub record OrderFirst (bytes : List ℕ) (l c : ℕ) : Type 0 where
+  pub letter : (l ≡ R) ⊎ (l ≡ C)
   pub code : c < 2 ^ 64
   pub is : bytes ≡ orderLine l c ++ drop 19 bytes
+
+abbrev pub Done : ℕ → List ℕ → ℕ → Outcome → Type 0
+Done l xs c o = ((l ≡ R) × Refined (wholeOf xs) xs c o) ⊎ ((l ≡ C) × Coarsened (wholeOf xs) xs c o)
 
 abbrev pub unreadable : List ℕ
 unreadable = 117 ∷ 110 ∷ 114 ∷ 101 ∷ 97 ∷ 100 ∷ 97 ∷ 98 ∷ 108 ∷ 101 ∷ newline ∷ []
@@ -97,12 +102,9 @@ pub data LeafLines (L : List ℕ) : List ℕ → List ℕ → Type 0 where
 -- "A line of another form [..] prints `unreadable` and ends the run without a list [..]. After the last line each leaf is
 -- printed"
 pub data Goes : List ℕ → List ℕ → List ℕ → Type 0 where
-  refines : {xs bytes t : List ℕ} {o : Outcome} (c : ℕ) → OrderFirst bytes R c → Refined (wholeOf xs) xs c o →
-      Goes (o .slots) (drop 19 bytes) t → Goes xs bytes (answer (o .reply .number) ++ t)
-  coarsens : {xs bytes t : List ℕ} {o : Outcome} (c : ℕ) → OrderFirst bytes C c → Coarsened (wholeOf xs) xs c o →
-      Goes (o .slots) (drop 19 bytes) t → Goes xs bytes (answer (o .reply .number) ++ t)
-  other : {xs bytes : List ℕ} → bytes ≢ [] → ((c : ℕ) → OrderFirst bytes R c → ⊥) → ((c : ℕ) → OrderFirst bytes C c → ⊥) →
-      Goes xs bytes unreadable
+  order : {xs bytes t : List ℕ} {o : Outcome} (l c : ℕ) → OrderFirst bytes l c → Done l xs c o → Goes (o .slots) (drop 19 bytes) t →
+      Goes xs bytes (answer (o .reply .number) ++ t)
+  other : {xs bytes : List ℕ} → bytes ≢ [] → ((l c : ℕ) → OrderFirst bytes l c → ⊥) → Goes xs bytes unreadable
   lists : {xs bytes t : List ℕ} → bytes ≡ [] → LeafLines (leaves xs) (leaves xs) t → Goes xs bytes t
 
 -- "on a slice of 8,192"

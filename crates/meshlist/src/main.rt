@@ -8,6 +8,6 @@ fn main() {
     let mut input = [0u8; 4097];
     let n = io::read_full(STDIN_FILENO, &mut input);
     let mut page = [0u8; 217088];
-    let end = listing::list(&input[..n], &mut page);
+    let end = listing::list(&mut page, &input[..n]);
     io::write_all(STDOUT_FILENO, &page[..end]);
 }

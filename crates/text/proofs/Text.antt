@@ -1,7 +1,7 @@
 -- Laws about text that is put into a page and digits that are read.
 --
---   put-none, put-more     == a text that is put in byte by byte
---   put-after              == one text after another
+--   put-more               == a text that is put in byte by byte
+--   put-none, put-after    == no text, one text after another
 --   digits-more            == digits that are put in from the last
 --   read-more, read-other  == digits that are read from the first
 --   digits-same            == the digits tell the number
@@ -37,6 +37,9 @@ put-after {a} {b} {c} {at} {mid} {end} {s} {t} p q = record {
   ends = omega (arith, p .ends, q .ends, length-append s t);
   reads = q .reads ∙ ap (λ (x : List ℕ). x ++ t) (p .reads) ∙ append-assoc (take at a) s t;
 }
+
+pub put-same : {a b : List ℕ} {at end : ℕ} {s t : List ℕ} → s ≡ t → Put a b at end s → Put a b at end t
+put-same {a} {b} {at} {end} e = subst (Put a b at end) e
 
 pub put-none : (a : List ℕ) (at : ℕ) → Put a a at at []
 put-none a at = record { ends = omega arith; reads = sym (append-nil (take at a)) }
