@@ -1,3 +1,4 @@
 pub mod Lines
 pub mod Leaves
 pub mod Orders
+pub mod Single

@@ -1,9 +1,11 @@
 // What `meshlist` prints, as one function from the bytes read to the bytes written. A page is where the text is put in.
 
+ghost use mathlib.Core.List.{List};
 ghost use mathlib.Core.Logic.{_⊎_};
 ghost use mathlib.Core.Path.{_≡_};
-ghost use Prim.Native.Nat.{_+_, _*_, _<_, _≤_};
+ghost use Prim.Native.Nat.{ℕ, _+_, _*_, _≤_};
 ghost use lib.ListN.{length, take, drop};
+ghost use Rattle.refusals.specs.Refusals.{Single};
 ghost use Rattle.refusals.specs.Answers.{Tells};
 ghost use Rattle.text.specs.Text.{Put};
 ghost use Rattle.soundness.specs.Leaves.{leaves};
@@ -142,6 +144,7 @@ fn obey(page: &mut [u8], at: usize, slots: &mut [u64], letter: u8, code: u64) ->
 fn obey_all(page: &mut [u8], slots: &mut [u64], input: &[u8]) -> usize
     requires { ⌜ (217088 ≤ length (now page)) × Grown (now slots) × (length (now input) ≤ 4096) × (2 ≤ length (now input)) ⌝ }
     ensures { λ r. ⌜ Goes (now (slots .entry)) (drop 2 (now (input .entry))) (take r (now (page .exit))) ⌝ }
+    ensures { λ r. ⌜ r ≤ length (now (page .exit)) ⌝ }
 {
     let mut end = 0;
     let mut at = 2;
@@ -174,6 +177,7 @@ fn solid_first(input: &[u8]) -> Reading
 // Puts in what is printed for an input, and answers where it ends.
 pub fn list(page: &mut [u8; 217088], input: &[u8]) -> usize
     ensures { λ r. ⌜ Prints (now (input .entry)) (take r (now (page .exit))) ⌝ }
+    ensures { λ r. ⌜ r ≤ length (now (page .exit)) ⌝ }
 {
     if INPUT < input.len() {
         return put_unreadable(page, 0);
@@ -187,6 +191,7 @@ pub fn list(page: &mut [u8; 217088], input: &[u8]) -> usize
 fn list_solid(page: &mut [u8], input: &[u8], solid: u64) -> usize
     requires { ⌜ (217088 ≤ length (now page)) × (length (now input) ≤ 4096) × SolidFirst (now input) solid ⌝ }
     ensures { λ r. ⌜ Prints (now (input .entry)) (take r (now (page .exit))) ⌝ }
+    ensures { λ r. ⌜ r ≤ length (now (page .exit)) ⌝ }
 {
     let mut slots = [0u64; 8192];
     let number = mesh::in_parts(mesh::fresh(&mut slots, solid)).number;
@@ -195,3 +200,10 @@ fn list_solid(page: &mut [u8], input: &[u8], solid: u64) -> usize
     }
     obey_all(page, &mut slots, input)
 }
+
+// Theorem. The function has an empty body and stands for what it ensures, so that the gate asks for it by name.
+
+// Each input prints one text.
+pub fn each_input_prints_one_text()
+    ensures { λ _. ⌜ ((bytes : List ℕ) → Single (Prints bytes)) ⌝ }
+{}

@@ -2,9 +2,10 @@
 --
 --   put-more               == a text that is put in byte by byte
 --   put-none, put-after    == no text, one text after another
+--   put-within             == a text that is put in ends within the page
 --   digits-more            == digits that are put in from the last
 --   read-more, read-other  == digits that are read from the first
---   digits-same            == the digits tell the number
+--   digits-one             == the digits tell the number
 --
 -- Assumes nothing.
 use mathlib.Core.List.{List, [], _∷_, _++_, append-assoc, append-nil}
@@ -16,8 +17,8 @@ use native.Mathlib.Decide.{decLe}
 use native.Mathlib.Omega.{arith}
 use borrow.Author.Tests.{lt-ltb, le-ltb}
 use lib.Dec.{lit<}
-use lib.ListN.{length, take, drop, set, getD, length-append, length-set, length-drop, List·getD-append}
-use lib.Seq.{take-suc, take-suc-set, drop-cons, drop-set-lt, getD-set-same, getD-drop, getD-take, append-snoc, take-add, getD-at, take-at}
+use lib.ListN.{length, take, drop, set, getD, length-append, length-set, length-drop, length-take, List·getD-append}
+use lib.Seq.{length-take-le, take-suc, take-suc-set, drop-cons, drop-set-lt, getD-set-same, getD-drop, getD-take, append-snoc, take-add, getD-at, take-at}
 use Rattle.text.specs.Text.{glyph, digits, Put, Shows, Digit}
 
 pub put-more : (page₀ page text : List ℕ) (at i : ℕ) → i < length text → at + i < length page → take (at + i) page ≡ take at page₀ ++ take i text →
@@ -40,6 +41,11 @@ put-after {a} {b} {c} {at} {mid} {end} {s} {t} p q = record {
 
 pub put-same : {a b : List ℕ} {at end : ℕ} {s t : List ℕ} → s ≡ t → Put a b at end s → Put a b at end t
 put-same {a} {b} {at} {end} e = subst (Put a b at end) e
+
+-- a text that is put in ends within the page
+pub put-within : {a b : List ℕ} {at end : ℕ} {t : List ℕ} → Put a b at end t → at ≤ length a → end ≤ length b
+put-within {a} {b} {at} {end} {t} p h =
+    omega (arith, p .ends, ap length (p .reads), length-append (take at a) t, length-take-le at a h, length-take end b)
 
 pub put-none : (a : List ℕ) (at : ℕ) → Put a a at at []
 put-none a at = record { ends = omega arith; reads = sym (append-nil (take at a)) }
@@ -173,3 +179,32 @@ digit-is x d (inr n) h = absurd (omega (arith, h, n .0))
 pub digit-none : (x d : ℕ) → Digit x d → 15 < d → (e : ℕ) → Shows x e → ⊥
 digit-none x d (inl s) h = absurd (omega (arith, h, s .0))
 digit-none x d (inr n) h = n .1
+
+-- what comes last, and what comes before it
+snoc-front : (xs ys : List ℕ) (a b : ℕ) → length xs ≡ length ys → xs ++ (a ∷ []) ≡ ys ++ (b ∷ []) → xs ≡ ys
+snoc-front xs ys a b l e =
+    sym (take-at xs (a ∷ []) (length ys) l) ∙ ap (take (length ys)) e ∙ take-at ys (b ∷ []) (length ys) refl
+
+snoc-last : (xs ys : List ℕ) (a b : ℕ) → length xs ≡ length ys → xs ++ (a ∷ []) ≡ ys ++ (b ∷ []) → a ≡ b
+snoc-last xs ys a b l e =
+    sym (getD-at xs a [] 0 (length ys) l) ∙ ap (λ (t : List ℕ). getD t (length ys) 0) e ∙ getD-at ys b [] 0 (length ys) refl
+
+glyph-one : (d e : ℕ) → d < 16 → e < 16 → glyph d ≡ glyph e → d ≡ e
+glyph-one d e h k s = go (decLe 10 d) (decLe 10 e)
+  where
+    go : Dec (10 ≤ d) → Dec (10 ≤ e) → d ≡ e
+    go (yes p) (yes q) = omega (arith, s, glyph-high d p, glyph-high e q)
+    go (yes p) (no q) = omega (arith, s, glyph-high d p, glyph-low e (omega arith))
+    go (no p) (yes q) = omega (arith, s, glyph-low d (omega arith), glyph-high e q)
+    go (no p) (no q) = omega (arith, s, glyph-low d (omega arith), glyph-low e (omega arith))
+
+pub digits-one : (k m n : ℕ) → m < 16 ^ k → n < 16 ^ k → digits 16 k m ≡ digits 16 k n → m ≡ n
+unfolding digits
+digits-one zero m n h l e = omega (arith, h, l)
+digits-one (suc k) m n h l e =
+    let same : length (digits 16 k (m / 16)) ≡ length (digits 16 k (n / 16)) = length-digits 16 k (m / 16) ∙ sym (length-digits 16 k (n / 16)) in
+    let front = snoc-front (digits 16 k (m / 16)) (digits 16 k (n / 16)) (glyph (m % 16)) (glyph (n % 16)) same e in
+    let last = snoc-last (digits 16 k (m / 16)) (digits 16 k (n / 16)) (glyph (m % 16)) (glyph (n % 16)) same e in
+    let q : m / 16 ≡ n / 16 = digits-one k (m / 16) (n / 16) (omega (arith, h, pow-suc 16 k)) (omega (arith, l, pow-suc 16 k)) front in
+    let r : m % 16 ≡ n % 16 = glyph-one (m % 16) (n % 16) (omega arith) (omega arith) last in
+    omega (arith, q, r)

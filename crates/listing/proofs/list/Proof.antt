@@ -3,6 +3,7 @@
 use mathlib.Core.Path.{sym, subst}
 use native.Mathlib.Omega.{arith}
 use borrow.Author.Needs.{needs}
+use Rattle.text.proofs.Text.{put-within}
 use Rattle.listing.specs.Listing.{Prints, long, unread}
 use Rattle.listing.specs.Lines.{SolidIs}
 use Rattle.listing.proofs.list.Statement.{statement}
@@ -12,7 +13,7 @@ put-unreadable-requires : tie.Need-put-unreadable-requires
 put-unreadable-requires c κs = search needs
 
 returns : tie.Need-returns
-returns c = subst (Prints _) (sym (c .put-unreadable .ensures .reads)) (long (c .before .before .if1 .taken))
+returns c = (subst (Prints _) (sym (c .put-unreadable .ensures .reads)) (long (c .before .before .if1 .taken)), put-within (c .put-unreadable .ensures) (omega arith))
 
 solid-first-requires : tie.Need-solid-first-requires
 solid-first-requires c κs = search needs
@@ -35,7 +36,7 @@ returns-2 : tie.Need-returns-2
 returns-2 c =
     let a = c .before .before .before .before .before .before .before .args in
     let none = subst (SolidIs (a .input .now)) (c .before .before .enum-told .given .1) (c .before .before .before .before .solid-first .ensures) in
-    subst (Prints (a .input .now)) (sym (c .put-unreadable2 .ensures .reads)) (unread (omega arith) none)
+    (subst (Prints (a .input .now)) (sym (c .put-unreadable2 .ensures .reads)) (unread (omega arith) none), put-within (c .put-unreadable2 .ensures) (omega arith))
 
 returns-3 : tie.Need-returns-3
 returns-3 c = search needs

@@ -1,8 +1,10 @@
 -- A mesh that is made is gone on with; one that is refused is answered.
 -- Assumes nothing.
 use mathlib.Core.Path.{ap, sym, _∙_, subst}
+use native.Mathlib.Omega.{arith}
 use borrow.Author.Needs.{needs}
 use Rattle.refusals.specs.Answers.{Reply}
+use Rattle.text.proofs.Text.{put-within}
 use Rattle.listing.specs.Listing.{answer, Prints, no-mesh, mesh}
 use Rattle.listing.proofs.Lines.{solid-long}
 use Rattle.soundness.specs.Regions.{allFaces}
@@ -32,9 +34,11 @@ returns c =
     let a = s .args in
     let fresh = c .before .before .before .before .before .before .before .fresh in
     let same = ap (λ (r : Reply). r .number) (c .before .before .before .before .before .in-parts .ensures) in
-    let p = c .before .before .put-answer .ensures in
-    subst (Prints (a .input .now)) (ap answer (sym same) ∙ sym (p .reads))
-    (no-mesh (a .solid) (s .pre .1) (s .pre .2) (fresh .ensures) (λ e. c .before .before .before .before .if1 .taken (same ∙ e)))
+    let p = c .before .before .put-answer .ensures in (
+      subst (Prints (a .input .now)) (ap answer (sym same) ∙ sym (p .reads))
+          (no-mesh (a .solid) (s .pre .1) (s .pre .2) (fresh .ensures) (λ e. c .before .before .before .before .if1 .taken (same ∙ e))),
+      put-within p (omega arith),
+    )
 
 slice-aggregate-obey-all : tie.Need-slice-aggregate-obey-all
 slice-aggregate-obey-all c = search needs
@@ -57,7 +61,7 @@ returns-2 c =
     let a = s .args in
     let fresh = c .before .before .before .before .before .before .before .before .before .fresh in
     let same = ap (λ (r : Reply). r .number) (c .before .before .before .before .before .before .before .in-parts .ensures) in
-    mesh (a .solid) (s .pre .1) (s .pre .2) (fresh .ensures) (sym same ∙ c .before .before .before .before .before .before .if1 .left) (c .before .before .before .obey-all .ensures)
+    (mesh (a .solid) (s .pre .1) (s .pre .2) (fresh .ensures) (sym same ∙ c .before .before .before .before .before .before .if1 .left) (c .before .before .before .obey-all .ensures .0), c .before .before .before .obey-all .ensures .1)
 
 pub list-solid-spec : {M : Type 1} → statement M
 list-solid-spec =

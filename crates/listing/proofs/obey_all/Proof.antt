@@ -7,6 +7,7 @@ use Prim.Native.Nat.{ℕ, _-_, _≤_}
 use native.Mathlib.Omega.{arith}
 use lib.ListN.{length, take, drop, length-drop, drop-of-length-le}
 use borrow.Author.Needs.{needs}
+use Rattle.text.proofs.Text.{put-within}
 use Rattle.listing.specs.Listing.{unreadable, Goes, other, lists, OrderFirst}
 use Rattle.listing.specs.Lines.{OrderIs, Grown}
 use Rattle.listing.proofs.Lines.{order-long, first-byte, answer-short}
@@ -66,7 +67,8 @@ returns c =
     let input = s .args .input .now in
     let none = subst (OrderIs (drop (l .at) input)) (c .before .before .before .before .enum-told .given .1) (c .before .before .before .before .before .before .order-at .ensures) in
     let some : drop (l .at) input ≢ [] = λ e. omega (arith, ap length e, length-drop (l .at) input) in
-    subst (Goes (s .args .slots .now) (drop 2 input)) (sym (c .before .before .put-unreadable .ensures .reads)) (l .inv .6 unreadable (other some none))
+    let put = c .before .before .put-unreadable .ensures in
+    (subst (Goes (s .args .slots .now) (drop 2 input)) (sym (put .reads)) (l .inv .6 unreadable (other some none)), put-within put (omega (arith, l .inv .1, l .inv .2, l .inv .3, s .pre .0, s .pre .2)))
 
 add-at : tie.Need-add-at Inv-loop μ-loop
 add-at c = search needs
@@ -110,8 +112,10 @@ returns-2 c =
     let l = c .before .before .before .before .before .before .loop in
     let input = s .args .input .now in
     let list = c .before .before .put-list .ensures in
-    let all : drop (l .at) input ≡ [] = drop-of-length-le input {i = l .at} (omega arith) in
-    subst (Goes (s .args .slots .now) (drop 2 input)) (sym (list .put .reads)) (l .inv .6 (list .text) (lists all (list .is)))
+    let all : drop (l .at) input ≡ [] = drop-of-length-le input {i = l .at} (omega arith) in (
+      subst (Goes (s .args .slots .now) (drop 2 input)) (sym (list .put .reads)) (l .inv .6 (list .text) (lists all (list .is))),
+      put-within (list .put) (omega (arith, l .inv .1, l .inv .2, l .inv .3, s .pre .0, s .pre .2)),
+    )
 
 pub obey-all-spec : {M : Type 1} → statement M
 obey-all-spec =
