@@ -19,7 +19,8 @@ three c P t l r lft = l
 three c P t l r rgt = r
 
 -- where it is not the tip and not the left corner, the right one tells
-pub last-corner : {b : Bool} (c : Corners) (x : List ℕ) → (c .tip ≡ x → ⊥) → (c .left ≡ x → ⊥) → Tells b (c .right ≡ x) → Tells b (HasCorner (at c) x)
+pub last-corner : {b : Bool} (c : Corners) (x : List ℕ) → (c .tip ≡ x → ⊥) → (c .left ≡ x → ⊥) → Tells b (c .right ≡ x) →
+    Tells b (HasCorner (at c) x)
 last-corner {b} c x t l r = record { yes = λ e. record { corner = rgt; is = r .yes e }; no = λ e h. go e (h .corner) (h .is) }
   where
     go : b ≡ false → (p : Corner) → at c p ≡ x → ⊥
@@ -29,7 +30,8 @@ last-corner {b} c x t l r = record { yes = λ e. record { corner = rgt; is = r .
 
 -- where the first end is there, the second tells; where it is not, there is nothing more to ask
 module _ (s : Side) (P Q : Triangle) where
-  pub second-tells : {a b : Bool} → Tells a (HasCorner Q (P (end₀ s))) → a ≡ true → Tells b (HasCorner Q (P (end₁ s))) → Tells b (HasSide s P Q)
+  pub second-tells : {a b : Bool} → Tells a (HasCorner Q (P (end₀ s))) → a ≡ true → Tells b (HasCorner Q (P (end₁ s))) →
+      Tells b (HasSide s P Q)
   second-tells f i t = record { yes = λ e. record { first = f .yes i; second = t .yes e }; no = λ e h. t .no e (h .second) }
 
   pub first-tells : {a : Bool} → Tells a (HasCorner Q (P (end₀ s))) → a ≡ false → Tells a (HasSide s P Q)

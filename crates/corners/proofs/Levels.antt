@@ -12,11 +12,11 @@ use lib.Bits.{bitAnd, and-mask}
 use lib.Pow.{pow-mono}
 use Rattle.solids.specs.Triangles.{Corner}
 use Rattle.solids.specs.Solids.{solidOf}
-use Rattle.geometry.specs.Weights.{_⊕_, total}
-use Rattle.geometry.specs.Corners.{Digit, Triangle, childCorners, corners}
+use Rattle.geometry.specs.Weights.{total}
+use Rattle.geometry.specs.Corners.{childCorners, corners}
 use Rattle.geometry.specs.Paths.{digitOf, digits}
 use Rattle.geometry.specs.Cells.{Cell, cell, faceCorners, corner, child}
-use Rattle.geometry.proofs.Corners.{one, two, child-sum, weights-sum}
+use Rattle.geometry.proofs.Corners.{child-alike, weights-sum}
 use Rattle.geometry.proofs.Paths.{length-digits}
 use Rattle.codes.specs.Codes.{solid, face, path, depth, size, Code, cellOf}
 use Rattle.codes.proofs.Sizes.{size-suc, size-two}
@@ -28,7 +28,8 @@ above x n = cell (solidOf (solid x)) (face x) (digits n (path x / size n))
 
 -- at the top the face, at the bottom the cell
 
-pub top : (x s f : ℕ) (a : Corners) → s ≡ solid x → f ≡ face x → AreCorners a (faceCorners (solidOf s) f) → AreCorners a (corner (above x 0))
+pub top : (x s f : ℕ) (a : Corners) → s ≡ solid x → f ≡ face x → AreCorners a (faceCorners (solidOf s) f) →
+    AreCorners a (corner (above x 0))
 unfolding digits corners
 top x s f a d e h p = h p ∙ ap₂ (λ (s f : ℕ). faceCorners (solidOf s) f p) d e
 
@@ -40,10 +41,6 @@ bottom x n a e h p = h p ∙ ap (λ (n : ℕ). corner (above x n) p) e
 pub light : (x n : ℕ) → Code x → n ≤ 26 → (p : Corner) → total (corner (above x n) p) < 2 ^ 63
 light x n c h p =
     omega (arith, weights-sum (above x n) (c .on) p, ap (λ (k : ℕ). 2 ^ k) (length-digits n (path x / size n)), pow-mono h)
-
--- the children of triangles that are alike are alike
-child-alike : (d : Digit) (P Q : Triangle) → ((p : Corner) → P p ≡ Q p) → (p : Corner) → childCorners d P p ≡ childCorners d Q p
-child-alike d P Q h p = child-sum d P p ∙ ap₂ _⊕_ (h (one d p)) (h (two d p)) ∙ sym (child-sum d Q p)
 
 -- one level down: the next digit leads to a child
 above-more : (x n : ℕ) → n < 26 → above x (n + 1) ≡ child (above x n) (digitOf (path x / size (n + 1) % 4))

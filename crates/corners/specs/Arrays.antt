@@ -1,7 +1,7 @@
--- Corners as arrays of twelve weights, and the corner rule on them.
+-- Corners as "arrays of twelve weights, three to a cell", and the corner rule on them.
 --
 --   at c p         == the array of the corner p
---   AreCorners c P == the arrays of c are the corners of the triangle P
+--   AreCorners c P == the arrays of c are the corners of the triangle P, weight for weight
 --   HasCorner P x  == the triangle P has the corner x, at whichever of its own corners
 --   HasSide s P Q  == the triangle Q has both end corners of side s of the triangle P
 --

@@ -48,23 +48,27 @@ sum-requires-12 c κs = let s = c .before .before .before .before .before .befor
 returns : tie.Need-returns
 returns c =
     let a = c .before .before .before .before .before .before .before .args in
-    rw (c .before .before .before .match .keys1) (three _ (childCorners d00 (at (a .of))) (c .before .before .sum .ensures) (c .before .sum2 .ensures) (c .sum3 .ensures))
+    rw (c .before .before .before .match .keys1)
+    (three _ (childCorners d00 (at (a .of))) (c .before .before .sum .ensures) (c .before .sum2 .ensures) (c .sum3 .ensures))
 
 returns-2 : tie.Need-returns-2
 returns-2 c =
     let a = c .before .before .before .before .before .before .before .args in
-    rw (c .before .before .before .match .keys2) (three _ (childCorners d01 (at (a .of))) (c .before .before .sum4 .ensures) (c .before .sum5 .ensures) (c .sum6 .ensures))
+    rw (c .before .before .before .match .keys2)
+    (three _ (childCorners d01 (at (a .of))) (c .before .before .sum4 .ensures) (c .before .sum5 .ensures) (c .sum6 .ensures))
 
 returns-3 : tie.Need-returns-3
 returns-3 c =
     let a = c .before .before .before .before .before .before .before .args in
-    rw (c .before .before .before .match .keys3) (three _ (childCorners d10 (at (a .of))) (c .before .before .sum7 .ensures) (c .before .sum8 .ensures) (c .sum9 .ensures))
+    rw (c .before .before .before .match .keys3)
+    (three _ (childCorners d10 (at (a .of))) (c .before .before .sum7 .ensures) (c .before .sum8 .ensures) (c .sum9 .ensures))
 
 returns-4 : tie.Need-returns-4
 returns-4 c =
     let a = c .before .before .before .before .before .before .before .args in
     let e : a .digit ≡ 3 = omega arith in
-    rw (e) (three _ (childCorners d11 (at (a .of))) (c .before .before .sum10 .ensures) (c .before .sum11 .ensures) (c .sum12 .ensures))
+    rw e
+    (three _ (childCorners d11 (at (a .of))) (c .before .before .sum10 .ensures) (c .before .sum11 .ensures) (c .sum12 .ensures))
 
 pub child-spec : {M : Type 1} → statement M
 child-spec =

@@ -26,7 +26,8 @@ returns-3 : tie.Need-returns-3
 returns-3 c =
     let b = c .before in
     let a = b .before .before .before .before .before .before .before .args in
-    last-corner (a .cell) (a .x) (b .before .before .before .same .ensures .no (b .before .before .if1 .left)) (b .before .same2 .ensures .no (b .if2 .left)) (c .same3 .ensures)
+    last-corner (a .cell) (a .x) (b .before .before .before .same .ensures .no (b .before .before .if1 .left))
+    (b .before .same2 .ensures .no (b .if2 .left)) (c .same3 .ensures)
 
 pub has-corner-spec : {M : Type 1} → statement M
 has-corner-spec =

@@ -30,34 +30,40 @@ has-corner-requires-6 c κs = search needs
 returns : tie.Need-returns
 returns c =
     let a = c .before .before .before .before .before .before .before .args in
-    rw (c .before .before .before .match .keys1) (second-tells left (at (a .of)) (at (a .other)) (c .before .before .has-corner .ensures) (c .before .if1 .taken) (c .has-corner2 .ensures))
+    rw (c .before .before .before .match .keys1)
+    (second-tells left (at (a .of)) (at (a .other)) (c .before .before .has-corner .ensures) (c .before .if1 .taken) (c .has-corner2 .ensures))
 
 returns-2 : tie.Need-returns-2
 returns-2 c =
     let a = c .before .before .before .before .before .before .args in
-    rw (c .before .before .match .keys1) (first-tells left (at (a .of)) (at (a .other)) (c .before .has-corner .ensures) (c .if1 .left))
+    rw (c .before .before .match .keys1)
+    (first-tells left (at (a .of)) (at (a .other)) (c .before .has-corner .ensures) (c .if1 .left))
 
 returns-3 : tie.Need-returns-3
 returns-3 c =
     let a = c .before .before .before .before .before .before .before .args in
-    rw (c .before .before .before .match .keys2) (second-tells right (at (a .of)) (at (a .other)) (c .before .before .has-corner3 .ensures) (c .before .if2 .taken) (c .has-corner4 .ensures))
+    rw (c .before .before .before .match .keys2)
+    (second-tells right (at (a .of)) (at (a .other)) (c .before .before .has-corner3 .ensures) (c .before .if2 .taken) (c .has-corner4 .ensures))
 
 returns-4 : tie.Need-returns-4
 returns-4 c =
     let a = c .before .before .before .before .before .before .args in
-    rw (c .before .before .match .keys2) (first-tells right (at (a .of)) (at (a .other)) (c .before .has-corner3 .ensures) (c .if2 .left))
+    rw (c .before .before .match .keys2)
+    (first-tells right (at (a .of)) (at (a .other)) (c .before .has-corner3 .ensures) (c .if2 .left))
 
 returns-5 : tie.Need-returns-5
 returns-5 c =
     let a = c .before .before .before .before .before .before .before .args in
     let e : a .side ≡ 2 = omega arith in
-    rw (e) (second-tells vertical (at (a .of)) (at (a .other)) (c .before .before .has-corner5 .ensures) (c .before .if3 .taken) (c .has-corner6 .ensures))
+    rw e
+    (second-tells vertical (at (a .of)) (at (a .other)) (c .before .before .has-corner5 .ensures) (c .before .if3 .taken) (c .has-corner6 .ensures))
 
 returns-6 : tie.Need-returns-6
 returns-6 c =
     let a = c .before .before .before .before .before .before .args in
     let e : a .side ≡ 2 = omega arith in
-    rw (e) (first-tells vertical (at (a .of)) (at (a .other)) (c .before .has-corner5 .ensures) (c .if3 .left))
+    rw e
+    (first-tells vertical (at (a .of)) (at (a .other)) (c .before .has-corner5 .ensures) (c .if3 .left))
 
 pub has-side-spec : {M : Type 1} → statement M
 has-side-spec =
