@@ -127,6 +127,7 @@ fn shown(number: usize, words: &[u8]) {
     io::write_all(STDOUT_FILENO, words);
 }
 
+// Runs the rule on all cells of a depth, and writes the line.
 fn at_depth(solid: u64, depth: u64, cells: usize)
     requires { ⌜ (depth ≤ 26) × (cells ≤ 320) ⌝ }
 {

@@ -44,7 +44,7 @@ pub fn of_face(solid: u64, face: u64) -> Corners
     }
 }
 
-// The sum of two corners, whose weights all together fit a number.
+// The sum of two corners, weight by weight. All their weights together fit a number, so no sum wraps.
 fn sum(a: [u64; 12], b: [u64; 12]) -> [u64; 12]
     requires { ⌜ total a + total b < 2 ^ 64 ⌝ }
     ensures { λ r. ⌜ r ≡ a ⊕ b ⌝ }
@@ -58,7 +58,8 @@ fn sum(a: [u64; 12], b: [u64; 12]) -> [u64; 12]
     weights
 }
 
-// The corners of a child, by the table of document 01.
+// The corners of a child, by the table of document 01. Weights at depth d sum to 2^d, so those of a code never come near
+// what is asked for.
 pub fn child(of: Corners, digit: u64) -> Corners
     requires { ⌜ (digit ≤ 3) × ((p : Corner) → total (at of p) < 2 ^ 63) ⌝ }
     ensures { λ r. ⌜ AreCorners r (childCorners (digitOf digit) (at of)) ⌝ }
@@ -136,7 +137,7 @@ pub fn has_corner(cell: Corners, x: [u64; 12]) -> bool
     same(r, x)
 }
 
-// Whether a cell has both end corners of a side of another one.
+// Whether the other cell has both end corners of a side of a cell, at whichever of its own.
 pub fn has_side(of: Corners, side: u64, other: Corners) -> bool
     requires { ⌜ side < 3 ⌝ }
     ensures { λ r. ⌜ Tells r (HasSide (sideOf side) (at of) (at other)) ⌝ }
@@ -153,7 +154,7 @@ pub fn has_side(of: Corners, side: u64, other: Corners) -> bool
 
 // Theorem. The function has an empty body and stands for what it ensures, so that the gate asks for it by name.
 
-// On the corners of two cells this is the corner rule: the one has both end corners of a side of the other.
+// On the corners of two cells, what `has_side` tells is the corner rule.
 pub fn the_arrays_of_two_cells_tell_the_corner_rule()
     ensures { λ _. ⌜ ((s : Side) (a b : Corners) (c n : Cell) → AreCorners a (corner c) → AreCorners b (corner n) → HasSide s (at a) (at b) → Has s c n) ⌝ }
     ensures { λ _. ⌜ ((s : Side) (a b : Corners) (c n : Cell) → AreCorners a (corner c) → AreCorners b (corner n) → Has s c n → HasSide s (at a) (at b)) ⌝ }

@@ -58,6 +58,7 @@ getD-unit (suc n) zero (suc w) h = getD-zeros n w
 getD-unit (suc n) (suc v) zero h = refl
 getD-unit (suc n) (suc v) (suc w) h = getD-unit n v w (omega arith)
 
+-- it is put into zeros
 pub unit-set : (n v : ℕ) → v < n → set (replicate n 0) v 1 ≡ unit n v
 unfolding unit
 unit-set zero v h = absurd (omega arith)
