@@ -4,7 +4,7 @@
 --
 -- Assumes nothing.
 use mathlib.Core.List.{List, [], _∷_}
-use mathlib.Core.Path.{_≡_, refl, ap, _∙_}
+use mathlib.Core.Path.{_≡_, refl, ap, ap₂, sym, _∙_}
 use Prim.Native.Nat.{ℕ, _+_, _^_, _<_, _≤_}
 use native.Mathlib.Nat.{pow-suc}
 use native.Mathlib.Omega.{arith}
@@ -62,6 +62,10 @@ child-sum d11 P rgt = refl
 -- a child's corner, place by place
 pub child-weight : (d : Digit) (P : Triangle) (p : Corner) (v : ℕ) → getD (childCorners d P p) v 0 ≡ getD (P (one d p)) v 0 + getD (P (two d p)) v 0
 child-weight d P p v = rw (child-sum d P p) (getD-⊕ (P (one d p)) (P (two d p)) v)
+
+-- the children of triangles that are alike are alike
+pub child-alike : (d : Digit) (P Q : Triangle) → ((p : Corner) → P p ≡ Q p) → (p : Corner) → childCorners d P p ≡ childCorners d Q p
+child-alike d P Q h p = child-sum d P p ∙ ap₂ _⊕_ (h (one d p)) (h (two d p)) ∙ sym (child-sum d Q p)
 
 corners-total : (P : Triangle) → ((p : Corner) → total (P p) ≡ 1) → (ds : List Digit) (p : Corner) → total (corners P ds p) ≡ 2 ^ length ds
 unfolding corners

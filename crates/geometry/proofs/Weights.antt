@@ -5,7 +5,7 @@ use mathlib.Core.Path.{_≡_, refl, ap, ap₂, sym, _∙_}
 use Prim.Native.Nat.{ℕ, zero, suc, _+_, _<_, _≤_}
 use native.Mathlib.Nat.{add-comm, add-zero, zero-add}
 use native.Mathlib.Omega.{arith}
-use lib.ListN.{length, getD, replicate, length-replicate}
+use lib.ListN.{length, getD, set, replicate, length-replicate}
 use Rattle.geometry.specs.Weights.{_⊕_, unit, δ, total}
 
 -- sums
@@ -36,6 +36,13 @@ total-⊕ [] ys = omega arith
 total-⊕ (x ∷ xs) [] = omega arith
 total-⊕ (x ∷ xs) (y ∷ ys) = omega (arith, total-⊕ xs ys)
 
+-- each weight is part of the sum of all
+pub weight≤total : (xs : List ℕ) (v : ℕ) → getD xs v 0 ≤ total xs
+unfolding total
+weight≤total [] v = omega arith
+weight≤total (x ∷ xs) zero = omega arith
+weight≤total (x ∷ xs) (suc v) = omega (arith, weight≤total xs v)
+
 -- a weight of 1 at one place
 
 getD-zeros : (n w : ℕ) → _≡_ {A = ℕ} (getD (replicate n 0) w 0) 0
@@ -50,6 +57,13 @@ getD-unit (suc n) zero zero h = refl
 getD-unit (suc n) zero (suc w) h = getD-zeros n w
 getD-unit (suc n) (suc v) zero h = refl
 getD-unit (suc n) (suc v) (suc w) h = getD-unit n v w (omega arith)
+
+-- it is put into zeros
+pub unit-set : (n v : ℕ) → v < n → set (replicate n 0) v 1 ≡ unit n v
+unfolding unit
+unit-set zero v h = absurd (omega arith)
+unit-set (suc n) zero h = refl
+unit-set (suc n) (suc v) h = ap (λ (xs : List ℕ). 0 ∷ xs) (unit-set n v (omega arith))
 
 pub length-unit : (n v : ℕ) → length (unit n v) ≡ n
 unfolding unit
