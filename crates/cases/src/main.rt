@@ -1,62 +1,58 @@
 // The exported calls on chosen numbers: well-formed ones, ones at the edges, and ones at fault in one or two ways. A line is
 // the call, what it was given and what it answered, in hexadecimal.
 
-use libc::STDOUT_FILENO;
-
-fn shown(number: u64) {
-    io::write_all(STDOUT_FILENO, b" ");
-    io::print_hex(STDOUT_FILENO, number, 1);
-}
+use show::shown;
+use show::text;
 
 fn answered(number: u64) {
-    io::write_all(STDOUT_FILENO, b" ->");
+    text(b" ->");
     shown(number);
-    io::write_all(STDOUT_FILENO, b"\n");
+    text(b"\n");
 }
 
 fn unpack(code: u64) {
-    io::write_all(STDOUT_FILENO, b"unpack");
+    text(b"unpack");
     shown(code);
     let mut fields = [7u64; 4];
     let number = urdinhosa::urdinhosa_unpack(code, &mut fields);
-    io::write_all(STDOUT_FILENO, b" ->");
+    text(b" ->");
     shown(number);
     shown(fields[0]);
     shown(fields[1]);
     shown(fields[2]);
     shown(fields[3]);
-    io::write_all(STDOUT_FILENO, b"\n");
+    text(b"\n");
 }
 
 fn parent(code: u64) {
-    io::write_all(STDOUT_FILENO, b"parent");
+    text(b"parent");
     shown(code);
     answered(urdinhosa::urdinhosa_parent(code));
 }
 
 fn child(code: u64, digit: u64) {
-    io::write_all(STDOUT_FILENO, b"child");
+    text(b"child");
     shown(code);
     shown(digit);
     answered(urdinhosa::urdinhosa_child(code, digit));
 }
 
 fn step(code: u64, direction: u64) {
-    io::write_all(STDOUT_FILENO, b"step");
+    text(b"step");
     shown(code);
     shown(direction);
     answered(urdinhosa::urdinhosa_step(code, direction));
 }
 
 fn walk(code: u64, direction: u64) {
-    io::write_all(STDOUT_FILENO, b"walk");
+    text(b"walk");
     shown(code);
     shown(direction);
     answered(urdinhosa::urdinhosa_walk(code, direction));
 }
 
 fn pack(solid: u64, face: u64, path: u64, depth: u64) {
-    io::write_all(STDOUT_FILENO, b"pack");
+    text(b"pack");
     shown(solid);
     shown(face);
     shown(path);
@@ -65,7 +61,7 @@ fn pack(solid: u64, face: u64, path: u64, depth: u64) {
 }
 
 fn locate(solid: u64, face: u64, t: u64, l: u64, r: u64, depth: u64) {
-    io::write_all(STDOUT_FILENO, b"locate");
+    text(b"locate");
     shown(solid);
     shown(face);
     shown(t);
@@ -185,7 +181,7 @@ fn locating() {
 }
 
 fn sound(slots: &[u64]) {
-    io::write_all(STDOUT_FILENO, b"sound");
+    text(b"sound");
     if urdinhosa::urdinhosa_sound(slots) {
         answered(1);
     } else {
@@ -195,20 +191,20 @@ fn sound(slots: &[u64]) {
 
 // The number and the blocker that a call gave.
 fn changed(number: u64, blocker: u64) {
-    io::write_all(STDOUT_FILENO, b" ->");
+    text(b" ->");
     shown(number);
     shown(blocker);
-    io::write_all(STDOUT_FILENO, b"\n");
+    text(b"\n");
 }
 
 fn fresh(slots: &mut [u64], solid: u64) {
-    io::write_all(STDOUT_FILENO, b"fresh");
+    text(b"fresh");
     shown(solid);
     answered(urdinhosa::urdinhosa_fresh(slots, solid));
 }
 
 fn refine(slots: &mut [u64], leaf: u64) {
-    io::write_all(STDOUT_FILENO, b"refine");
+    text(b"refine");
     shown(leaf);
     let mut blocker = 7;
     let number = urdinhosa::urdinhosa_refine(slots, leaf, &mut blocker);
@@ -216,7 +212,7 @@ fn refine(slots: &mut [u64], leaf: u64) {
 }
 
 fn coarsen(slots: &mut [u64], cell: u64) {
-    io::write_all(STDOUT_FILENO, b"coarsen");
+    text(b"coarsen");
     shown(cell);
     let mut blocker = 7;
     let number = urdinhosa::urdinhosa_coarsen(slots, cell, &mut blocker);
@@ -224,7 +220,7 @@ fn coarsen(slots: &mut [u64], cell: u64) {
 }
 
 fn met(slots: &[u64], leaf: u64, direction: u64) {
-    io::write_all(STDOUT_FILENO, b"across");
+    text(b"across");
     shown(leaf);
     shown(direction);
     let mut level: i64 = 7;
@@ -238,31 +234,31 @@ fn met(slots: &[u64], leaf: u64, direction: u64) {
         &mut first,
         &mut second,
     );
-    io::write_all(STDOUT_FILENO, b" ->");
+    text(b" ->");
     shown(number);
     if level < 0 {
-        io::write_all(STDOUT_FILENO, b" -1");
+        text(b" -1");
     } else if level == 0 {
-        io::write_all(STDOUT_FILENO, b" 0");
+        text(b" 0");
     } else {
-        io::write_all(STDOUT_FILENO, b" 1");
+        text(b" 1");
     }
     shown(first);
     shown(second);
-    io::write_all(STDOUT_FILENO, b"\n");
+    text(b"\n");
 }
 
 fn run(slots: &[u64], cell: u64) {
-    io::write_all(STDOUT_FILENO, b"run");
+    text(b"run");
     shown(cell);
     let mut start: usize = 7;
     let mut count: usize = 7;
     let number = urdinhosa::urdinhosa_run(slots, cell, &mut start, &mut count);
-    io::write_all(STDOUT_FILENO, b" ->");
+    text(b" ->");
     shown(number);
     shown(start as u64);
     shown(count as u64);
-    io::write_all(STDOUT_FILENO, b"\n");
+    text(b"\n");
 }
 
 // The tetrahedron with its face 0 refined, and what comes of it in ten slots.

@@ -5,8 +5,9 @@
 ghost use Prim.Native.Nat.{_*_, _+_, _≤_, _<_};
 ghost use lib.ListN.{length};
 use corners::Corners;
-use libc::STDOUT_FILENO;
 use refusals::Answer;
+use show::decimal;
+use show::text;
 use solids::Icosahedron;
 use solids::Octahedron;
 use solids::Tetrahedron;
@@ -122,9 +123,9 @@ fn all_agreeing(weights: &[[u64; 12]], solid: u64, depth: u64, cells: usize) -> 
     agreeing
 }
 
-fn shown(number: usize, words: &[u8]) {
-    io::print_decimal(STDOUT_FILENO, number as u64);
-    io::write_all(STDOUT_FILENO, words);
+fn counted(number: usize, words: &[u8]) {
+    decimal(number as u64);
+    text(words);
 }
 
 // Runs the rule on all cells of a depth, and writes the line.
@@ -134,12 +135,12 @@ fn at_depth(solid: u64, depth: u64, cells: usize)
     let none = [0u64; 12];
     let mut weights = [none; 960];
     write_corners(&mut weights, solid, depth, cells);
-    io::write_all(STDOUT_FILENO, b"solid ");
-    shown(solid as usize, b", depth ");
-    shown(depth as usize, b": ");
-    shown(cells, b" cells, ");
-    shown(3 * cells, b" sides, ");
-    shown(all_agreeing(&weights, solid, depth, cells), b" agree\n");
+    text(b"solid ");
+    counted(solid as usize, b", depth ");
+    counted(depth as usize, b": ");
+    counted(cells, b" cells, ");
+    counted(3 * cells, b" sides, ");
+    counted(all_agreeing(&weights, solid, depth, cells), b" agree\n");
 }
 
 // Each level has four times as many cells.

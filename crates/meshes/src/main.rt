@@ -3,20 +3,12 @@
 // after a colon the slots as the call left them, or the part of them that it handed out.
 
 ghost use Prim.Native.Nat.{_<_};
-use libc::STDOUT_FILENO;
 use mesh::Change;
 use mesh::Counted;
 use mesh::Facing;
+use show::shown;
+use show::text;
 use soundness::Met;
-
-fn text(bytes: &[u8]) {
-    io::write_all(STDOUT_FILENO, bytes);
-}
-
-fn shown(number: u64) {
-    text(b" ");
-    io::print_hex(STDOUT_FILENO, number, 1);
-}
 
 fn slots_shown(slots: &[u64]) {
     for i in 0..slots.len() {

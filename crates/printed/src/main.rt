@@ -9,7 +9,8 @@
 // Not run: the example of 5.1, which is of squares, and the masks of Tables VI and VII, which are no cells.
 
 ghost use Prim.Native.Nat.{_≤_};
-use libc::STDOUT_FILENO;
+use show::decimal;
+use show::text;
 
 const LEFT: u64 = 0;
 
@@ -22,10 +23,6 @@ fn cell(face: u64, depth: u64, digits: u64) -> u64
     requires { ⌜ depth ≤ 26 ⌝ }
 {
     urdinhosa::urdinhosa_pack(3, face, digits << (52 - 2 * depth), depth)
-}
-
-fn text(bytes: &[u8]) {
-    io::write_all(STDOUT_FILENO, bytes);
 }
 
 fn digit_shown(digit: u64) {
@@ -61,7 +58,7 @@ fn face_shown(label: &[u8], code: u64) {
     let mut fields = [0u64; 4];
     urdinhosa::urdinhosa_unpack(code, &mut fields);
     text(label);
-    io::print_decimal(STDOUT_FILENO, fields[1]);
+    decimal(fields[1]);
 }
 
 fn question_shown(section: &[u8], direction: u64, given: u64) {
