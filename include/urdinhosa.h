@@ -30,6 +30,28 @@
 extern "C" {
 #endif
 
+enum urdinhosa_solid {
+    URDINHOSA_TETRAHEDRON = 1, /* 4 faces */
+    URDINHOSA_OCTAHEDRON = 2,  /* 8 faces */
+    URDINHOSA_ICOSAHEDRON = 3  /* 20 faces */
+};
+
+/* The sides of a triangle, each by the direction in which it is crossed. */
+enum urdinhosa_direction {
+    URDINHOSA_LEFT = 0,    /* between tip and left corner */
+    URDINHOSA_RIGHT = 1,   /* between tip and right corner */
+    URDINHOSA_VERTICAL = 2 /* between left and right corner */
+};
+
+/* An answer below this is the number of a refusal, any other is a code. */
+#define URDINHOSA_LEAST_CODE (UINT64_C(1) << 62)
+
+/* What the weights of a point sum to. */
+#define URDINHOSA_WHOLE (UINT64_C(1) << 26)
+
+/* The most slots that a mesh has. */
+#define URDINHOSA_MOST_SLOTS 8192
+
 enum urdinhosa_refusal {
     URDINHOSA_DONE = 0,  /* not refused */
     URDINHOSA_SOLID = 1, /* the solid is not 1, 2 or 3 */

@@ -1,4 +1,4 @@
-//! Links the static library that `rt staticlib urdinhosa` writes.
+//! Links the static library that `scripts/build urdinhosa` writes.
 //!
 //! It is looked for in the folder that URDINHOSA_LIB names, a relative one counted from this package; without that
 //! variable, in the repository's own target/staticlib.
@@ -13,7 +13,7 @@ fn main() {
     println!("cargo:rerun-if-changed={}", archive.display());
     if !archive.is_file() {
         panic!(
-            "{} is not there: run `rt staticlib urdinhosa` first, or name its folder in URDINHOSA_LIB",
+            "{} is not there: run `scripts/build urdinhosa` first, or name its folder in URDINHOSA_LIB",
             archive.display()
         );
     }

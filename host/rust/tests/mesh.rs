@@ -13,8 +13,11 @@ use model::tally::Tally;
 use std::collections::HashMap;
 use urdinhosa::{c, Across, Refusal, Stopped};
 
-/// Stands in every place that a call may write, and beside the slots.
+/// Stands in every place that a call may write.
 const OTHER: u64 = 0x5555_5555_5555_5555;
+
+/// Stands before and after the slots. It is as long as what a change puts in or takes out.
+const GUARD: [u64; 4] = [OTHER; 4];
 
 // ---------------------------------------------------------------------------------------------------------------------
 // Comparing library and model on one call. Each is made from Rust and from C.
@@ -69,10 +72,11 @@ fn compare_change(slots: &mut [u64], change: Change) -> u64 {
     let (number, blocker) = expected.as_ref().err().copied().unwrap_or((0, 0));
     let after = expected.unwrap_or_else(|_| before.clone());
 
-    let mut guarded = [&[OTHER], before.as_slice(), &[OTHER]].concat();
-    let answer = change.from_c(&mut guarded[1..=before.len()]);
+    let guarded = |slots: &[u64]| [&GUARD, slots, &GUARD].concat();
+    let mut lent = guarded(&before);
+    let answer = change.from_c(&mut lent[GUARD.len()..][..before.len()]);
     assert_eq!(answer, (number, blocker), "{:x?} from C, of {:x?}", change, before);
-    assert_eq!(guarded, [&[OTHER], after.as_slice(), &[OTHER]].concat(), "{:x?} from C, of {:x?}", change, before);
+    assert_eq!(lent, guarded(&after), "{:x?} from C, of {:x?}", change, before);
 
     let answer = change.from_rust(slots).err().unwrap_or((0, 0));
     assert_eq!(answer, (number, blocker), "{:x?} of {:x?}", change, before);
@@ -212,29 +216,11 @@ fn even_mesh(solid: u64, depth: u64) -> Vec<u64> {
     cells.map(|cell| codes::code_of(&cell)).collect()
 }
 
-/// Mostly a leaf; else a cell near one, any cell, or a number that may be no code.
-fn random_code(random: &mut Random, slots: &[u64]) -> u64 {
-    let leaf = random.one_of(&mesh::leaves_in(slots));
-    let digit = random.below(4);
-    match random.below(16) {
-        0 | 1 => codes::parent(leaf).unwrap_or(leaf),
-        2 => codes::parent(leaf).and_then(codes::parent).unwrap_or(leaf),
-        3 => codes::child(leaf, digit).unwrap_or(leaf),
-        4 => codes::code_of(&random.cell()),
-        5 => codes::code_of(&random.cell_of_depth(DEEPEST)),
-        6 => random.with_a_wrong_bit(leaf),
-        7 => random.with_another_part(leaf),
-        8 => random.number_at_an_edge(),
-        9 => random.number(),
-        _ => leaf,
-    }
-}
-
 // ---------------------------------------------------------------------------------------------------------------------
 // Series of calls
 
 fn random_change(random: &mut Random, slots: &[u64]) -> Change {
-    let code = random_code(random, slots);
+    let code = random.code_for(&mesh::leaves_in(slots));
     match random.below(40) {
         0 => Change::Fresh(random.below(6)),
         1 => Change::Fresh(random.number_at_an_edge()),
@@ -276,7 +262,7 @@ fn random_questions_are_answered_as_by_the_model() {
     for _ in 0..120 {
         let slots = random_mesh(&mut random);
         for _ in 0..40 {
-            let code = random_code(&mut random, &slots);
+            let code = random.code_for(&mesh::leaves_in(&slots));
             let direction = random.one_of(&[0, 1, 2, 3, 1 << 8, 1 << 32, u64::MAX]);
             across.push(compare_across(&slots, code, direction));
             run.push(compare_run(&slots, code));
@@ -475,7 +461,7 @@ fn damaged_meshes_are_told_from_sound_ones_and_refused_as_by_the_model() {
                 sound += 1;
                 continue;
             }
-            let code = random_code(&mut random, &slots);
+            let code = random.code_for(&mesh::leaves_in(&slots));
             numbers.push(number_of_every_call(&damaged, code, random.below(4)));
         }
     }

@@ -232,12 +232,23 @@ pub fn across(slots: &[u64], code: u64, direction: u64) -> Result<(i64, u64, u64
         return Err(DIRECTION);
     }
     let leaf = leaves.iter().find(|leaf| leaf.code == code).ok_or(NOT_LEAF)?;
-    let others: Vec<&Triangle> = leaves_over_side(&leaves, leaf, direction).collect();
+    Ok(across_side(&leaves, leaf, direction))
+}
+
+/// Each leaf of a sound mesh, with the level differences of its sides.
+pub fn levels(slots: &[u64]) -> Vec<(u64, [i64; 3])> {
+    let leaves = sound_leaves(slots).expect("a sound mesh");
+    let level = |leaf, direction| across_side(&leaves, leaf, direction).0;
+    leaves.iter().map(|leaf| (leaf.code, DIRECTIONS.map(|direction| level(leaf, direction)))).collect()
+}
+
+fn across_side(leaves: &[Triangle], leaf: &Triangle, direction: u64) -> (i64, u64, u64) {
+    let others: Vec<&Triangle> = leaves_over_side(leaves, leaf, direction).collect();
     let level = depth_of(&others[0].cell) as i64 - depth_of(&leaf.cell) as i64;
     match (level, others.as_slice()) {
-        (-1 | 0, [one]) => Ok((level, one.code, 0)),
-        (1, [low, high]) => Ok((level, low.code, high.code)),
-        _ => panic!("{:#018x} in direction {} meets {:?}", code, direction, others),
+        (-1 | 0, [one]) => (level, one.code, 0),
+        (1, [low, high]) => (level, low.code, high.code),
+        _ => panic!("{:#018x} in direction {} meets {:?}", leaf.code, direction, others),
     }
 }
 

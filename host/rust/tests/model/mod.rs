@@ -8,6 +8,7 @@
 
 pub mod codes;
 pub mod corners;
+pub mod listing;
 pub mod mesh;
 pub mod points;
 pub mod random;

@@ -1,6 +1,6 @@
 //! Random numbers that are the same in every run (splitmix64), and random cells.
 
-use super::codes::{Cell, DEEPEST};
+use super::codes::{self, Cell, DEEPEST};
 use super::solids;
 
 /// The digits of the two children that have a part of a side of their parent, by the side's direction.
@@ -67,6 +67,24 @@ impl Random {
             if !ALONG[direction as usize].contains(&digit) {
                 return digit;
             }
+        }
+    }
+
+    /// Mostly one of the leaves; else a cell near one, any cell, or a number that may be no code.
+    pub fn code_for(&mut self, leaves: &[u64]) -> u64 {
+        let leaf = self.one_of(leaves);
+        let digit = self.below(4);
+        match self.below(16) {
+            0 | 1 => codes::parent(leaf).unwrap_or(leaf),
+            2 => codes::parent(leaf).and_then(codes::parent).unwrap_or(leaf),
+            3 => codes::child(leaf, digit).unwrap_or(leaf),
+            4 => codes::code_of(&self.cell()),
+            5 => codes::code_of(&self.cell_of_depth(DEEPEST)),
+            6 => self.with_a_wrong_bit(leaf),
+            7 => self.with_another_part(leaf),
+            8 => self.number_at_an_edge(),
+            9 => self.number(),
+            _ => leaf,
         }
     }
 
