@@ -1,5 +1,6 @@
 // The level test of leaves that tile: whether those that share a stretch of a side differ by at most one level. For each leaf
-// a look at its last two digits, and for each side that they ask for one step of its parent and one search.
+// a look at its last two digits, and for each side that they ask for one step of its parent and one search. Most cells beside
+// a leaf's parent stand near the leaf: `at`, its index, is handed on as the search's guess.
 
 ghost use mathlib.Core.Path.{_≡_};
 ghost use Prim.Native.Nat.{_+_, _*_, _<_, _≤_};
@@ -21,11 +22,11 @@ fn last_two(code: u64) -> u64
 
 // Whether some leaf of the first `n` is the cell or lies inside it, for a cell on the faces that they tile: the first leaf that is
 // not less begins where the cell begins, or it lies past the cell.
-fn has_some(slots: &[u64], n: usize, code: u64) -> bool
+fn has_some(slots: &[u64], n: usize, at: usize, code: u64) -> bool
     requires { ⌜ (n ≤ length (now slots)) × TiledAround (take n (now slots)) code ⌝ }
     ensures { λ r. ⌜ Tells r (Present (take n (now (slots .entry))) code) ⌝ }
 {
-    let i = slots::below(slots, n, code);
+    let i = slots::below_near(slots, n, code, at);
     if i == n {
         return false;
     }
@@ -33,27 +34,27 @@ fn has_some(slots: &[u64], n: usize, code: u64) -> bool
 }
 
 // Whether a cell lies outside the faces, or some leaf is the cell or lies inside it.
-fn is_fine(slots: &[u64], n: usize, faces: u64, code: u64) -> bool
+fn is_fine(slots: &[u64], n: usize, faces: u64, at: usize, code: u64) -> bool
     requires { ⌜ (n ≤ length (now slots)) × TiledFor faces (take n (now slots)) code ⌝ }
     ensures { λ r. ⌜ Tells r (Fine faces (take n (now (slots .entry))) code) ⌝ }
 {
     if !soundness::in_faces(faces, code >> 5) {
         return true;
     }
-    has_some(slots, n, code)
+    has_some(slots, n, at, code)
 }
 
 // Whether the cell across a side of a leaf's parent is fine.
-fn side_fine(slots: &[u64], n: usize, faces: u64, leaf: u64, side: u64) -> bool
+fn side_fine(slots: &[u64], n: usize, faces: u64, at: usize, leaf: u64, side: u64) -> bool
     requires { ⌜ (n ≤ length (now slots)) × TiledFor faces (take n (now slots)) leaf × (0 < depth leaf) × (side < 3) ⌝ }
     ensures { λ r. ⌜ Tells r (Fine faces (take n (now (slots .entry))) (stepCode side (parentCode leaf))) ⌝ }
 {
     let parent = codes::parent_of(leaf);
-    is_fine(slots, n, faces, steps::step_of(parent, side))
+    is_fine(slots, n, faces, at, steps::step_of(parent, side))
 }
 
 // Whether every side that a leaf's last two digits ask for is fine. Most leaves ask for none.
-fn sides_fine(slots: &[u64], n: usize, faces: u64, leaf: u64) -> bool
+fn sides_fine(slots: &[u64], n: usize, faces: u64, at: usize, leaf: u64) -> bool
     requires { ⌜ (n ≤ length (now slots)) × TiledFor faces (take n (now slots)) leaf ⌝ }
     ensures { λ r. ⌜ Tells r (SidesFine faces (take n (now (slots .entry))) leaf) ⌝ }
 {
@@ -61,10 +62,11 @@ fn sides_fine(slots: &[u64], n: usize, faces: u64, leaf: u64) -> bool
         return true;
     }
     match last_two(leaf) {
-        0b0000 => side_fine(slots, n, faces, leaf, 0) && side_fine(slots, n, faces, leaf, 1),
-        0b0100 => side_fine(slots, n, faces, leaf, 0),
-        0b1100 => side_fine(slots, n, faces, leaf, 1),
-        0b0101 | 0b1101 => side_fine(slots, n, faces, leaf, 2),
+        0b0000 => side_fine(slots, n, faces, at, leaf, 0)
+            && side_fine(slots, n, faces, at, leaf, 1),
+        0b0100 => side_fine(slots, n, faces, at, leaf, 0),
+        0b1100 => side_fine(slots, n, faces, at, leaf, 1),
+        0b0101 | 0b1101 => side_fine(slots, n, faces, at, leaf, 2),
         _ => true,
     }
 }
@@ -76,7 +78,7 @@ pub fn balanced(slots: &[u64], n: usize, faces: u64) -> bool
 {
     let mut i = 0;
     while i < n {
-        if !sides_fine(slots, n, faces, slots[i]) {
+        if !sides_fine(slots, n, faces, i, slots[i]) {
             return false;
         }
         i += 1;

@@ -1,7 +1,13 @@
 -- The list of the leaves, line by line.
+--
+--   Upto L i s       == with the lines of the leaves from i on, the text s is the whole list
+--   leaf-put         == a leaf's line, one part after the other
+--   line-more        == one line more
+--   upto-all         == after the last line the list is whole
+--
 -- Assumes nothing.
 use mathlib.Core.List.{List, [], _∷_, _++_, append-assoc, append-nil}
-use mathlib.Core.Path.{_≡_, refl, ap, sym, _∙_, subst}
+use mathlib.Core.Path.{_≡_, refl, sym, subst}
 use Prim.Native.Nat.{ℕ, suc, _+_, _<_, _≤_}
 use native.Mathlib.Omega.{arith}
 use lib.ListN.{length, take, drop, getD, drop-of-length-le}
@@ -20,7 +26,6 @@ difference-short (Equal b) = omega arith
 difference-short (Smaller b c) = omega arith
 difference-short Open = omega arith
 
--- with the lines of the leaves from i on, the text is the whole list
 abbrev pub Upto : List ℕ → ℕ → List ℕ → Type 0
 Upto L i s = (t : List ℕ) → LeafLines L (drop i L) t → LeafLines L L (s ++ t)
 

@@ -1,7 +1,12 @@
--- What the first bytes must be for a solid line or an order line, and that they are enough.
+-- What the first bytes must be for a solid line or an order line, and that they are enough; how long answers are.
 --
---   solid-made, solid-long, solid-digit, solid-end                     == of a solid line
---   order-made, order-long, order-letter, order-space, order-digits, order-end == of an order line
+--   solid-made   == bytes that begin with a digit and a newline begin with a solid line
+--   solid-..     == what a solid line begins with
+--   order-made   == bytes that begin with a letter, a space, 16 digits and a newline begin with an order line
+--   order-..     == what an order line begins with
+--   order-read   == the same from a place on, where the digits are read
+--   answer-put   == the word, the number and the end of the line, one after the other
+--   answer-short == no answer is longer than 11 bytes
 --
 -- Assumes nothing.
 use mathlib.Core.Bool.{Bool, true, false, cond}
@@ -83,7 +88,6 @@ module _ (B : List ℕ) (l c : ℕ) where
     pub order-end : getD B 18 0 ≡ newline
     order-end = ap (λ (t : List ℕ). getD t 18 0) is-parts ∙ getD-at (digits 16 16 c) newline (drop 19 B) 0 16 (length-digits 16 16 c)
 
--- the word, the number and the end of the line, one after the other
 pub answer-put : (a b c d : List ℕ) (at m e end number : ℕ) → number ≢ 0 → Put a b at m refused → Put b c m e (digits 10 (places number) number) → Put c d e end (newline ∷ []) →
     Put a d at end (answer number)
 answer-put a b c d at m e end zero n p q r = absurd (n refl)

@@ -1,10 +1,16 @@
 -- Orders done one after the other, on a mesh that stays sound.
+--
+--   grown-sound  == slots that a series of calls leaves are sound
+--   Onward       == with what the bytes that are left print, the text is what the input prints
+--   order-onward == one order more
+--   order-grown  == an order leaves such slots
+--
 -- Assumes nothing.
-use mathlib.Core.List.{List, [], _∷_, _++_, append-assoc}
+use mathlib.Core.List.{List, _++_, append-assoc}
 use mathlib.Core.Logic.{inl, inr}
-use mathlib.Core.Path.{_≡_, ap, sym, _∙_, subst}
+use mathlib.Core.Path.{sym, subst}
 use Prim.Native.Nat.{ℕ, _+_}
-use lib.ListN.{drop, getD, take}
+use lib.ListN.{drop, take}
 use lib.Seq.{drop-drop}
 use Rattle.codes.specs.Codes.{solid}
 use Rattle.soundness.specs.Regions.{allFaces}
@@ -23,7 +29,6 @@ grown-sound xs g =
     let e = sound-solid (g .solid) (allFaces (g .solid)) xs s in
     subst (λ (S : ℕ). Sound S (allFaces S) xs) (sym e) s
 
--- with what the bytes that are left print, the text is what the input prints
 abbrev pub Onward : List ℕ → List ℕ → List ℕ → List ℕ → List ℕ → Type 0
 Onward xs₀ bytes₀ xs bytes s = (t : List ℕ) → Goes xs bytes t → Goes xs₀ bytes₀ (s ++ t)
 
@@ -37,7 +42,6 @@ order-onward xs₀ bytes₀ xs ys input p q at end end′ l c line order before 
     subst (λ (s : List ℕ). Goes xs₀ bytes₀ (s ++ t)) (sym (order .put .reads))
     (subst (Goes xs₀ bytes₀) (sym (append-assoc (take end p) said t)) (before (said ++ t) (listing.order l c line (order .done) next)))
 
--- an order keeps a mesh grown
 pub order-grown : (xs ys p q : List ℕ) (at end l c : ℕ) → Grown xs → Obeyed l c xs ys p q at end → Grown ys
 order-grown xs ys p q at end l c g order = subst Grown (sym (order .left)) (go (order .done))
   where

@@ -1,9 +1,9 @@
--- For each input there is one text.
+-- For each input there is one text: a line is of one form, a call has one answer, a side meets one thing.
 -- Assumes nothing.
 use mathlib.Core.List.{List, [], _∷_, _++_}
-use mathlib.Core.Logic.{inl, inr, ⊎-elim}
+use mathlib.Core.Logic.{inl, inr}
 use mathlib.Core.Path.{_≡_, refl, ap, ap₂, sym, _∙_, subst}
-use Prim.Native.Nat.{ℕ, _+_, _<_, _≤_}
+use Prim.Native.Nat.{ℕ, _+_}
 use native.Mathlib.Omega.{arith}
 use lib.ListN.{length, drop}
 use Rattle.refusals.specs.Refusals.{Single}
@@ -18,7 +18,7 @@ use Rattle.mesh.proofs.Single.{fresh-single, refine-single, coarsen-single}
 use Rattle.text.specs.Text.{digits}
 use Rattle.text.proofs.Text.{digits-one}
 use Rattle.listing.specs.Listing.{newline, SolidFirst, OrderFirst, Done, answer, difference, LeafLine, LeafLines, none, next, Goes, order, other, lists, bare, Prints, long, unread, no-mesh, mesh}
-use Rattle.listing.proofs.Lines.{solid-long, solid-digit, order-long, order-letter, order-digits}
+use Rattle.listing.proofs.Lines.{solid-digit, order-long, order-letter, order-digits}
 
 solid-one : (B : List ℕ) (d e : ℕ) → SolidFirst B d → SolidFirst B e → d ≡ e
 solid-one B d e s t = omega (arith, solid-digit B d s, solid-digit B e t)

@@ -60,12 +60,15 @@ pub record OrderFirst (bytes : List ℕ) (l c : ℕ) : Type 0 where
   pub code : c < 2 ^ 64
   pub is : bytes ≡ orderLine l c ++ drop 19 bytes
 
+-- `R` refines a leaf, `C` coarsens a cell
 abbrev pub Done : ℕ → List ℕ → ℕ → Outcome → Type 0
 Done l xs c o = ((l ≡ R) × Refined (wholeOf xs) xs c o) ⊎ ((l ≡ C) × Coarsened (wholeOf xs) xs c o)
 
+-- u, n, r, e, a, d, a, b, l, e
 abbrev pub unreadable : List ℕ
 unreadable = 117 ∷ 110 ∷ 114 ∷ 101 ∷ 97 ∷ 100 ∷ 97 ∷ 98 ∷ 108 ∷ 101 ∷ newline ∷ []
 
+-- r, e, f, u, s, e, d
 abbrev pub refused : List ℕ
 refused = 114 ∷ 101 ∷ 102 ∷ 117 ∷ 115 ∷ 101 ∷ 100 ∷ space ∷ []
 
@@ -78,7 +81,7 @@ abbrev pub answer : ℕ → List ℕ
 answer zero = []
 answer (suc k) = refused ++ (digits 10 (places (suc k)) (suc k) ++ (newline ∷ []))
 
--- −1, 0 or 1; no side of a whole solid is open
+-- "the neighbouring leaf's level minus its own": 45 is the sign `-`, 48 and 49 are `0` and `1`; no side of a whole solid is open
 abbrev pub difference : Met → List ℕ
 difference (Larger b) = space ∷ 45 ∷ 49 ∷ []
 difference (Equal b) = space ∷ 48 ∷ []

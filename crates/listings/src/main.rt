@@ -27,7 +27,9 @@ fn refused() {
     list(b"4\nR 4000000000000000\n");
     list(b"9\nX");
     // 1 to 4: the code
-    list(b"1\nR 0000000000000000\nC 4800000000000000\nR 400000000000001b\nC 4000000000000020\n");
+    list(
+        b"1\nR 0000000000000000\nC 4800000000000000\nR 400000000000001b\nC 4000000000000020\nR ffffffffffffffff\n",
+    );
     // 12, 13: no leaf, no four leaves; a code of another solid
     list(b"1\nR 4000000000000001\nC 4000000000000000\nR 8000000000000000\nC 8000000000000000\n");
     // 7: no children at depth 26
@@ -60,6 +62,7 @@ fn no_order_line() {
     list(b"1\n\n");
     list(b"1\nR 400000000000000A\n");
     list(b"1\nR 400000000000000g\n");
+    list(b"1\nR 400000000000000`\n");
     list(b"1\nR  400000000000000\n");
     list(b"1\nR  4000000000000000\n");
     list(b"1\nR 4000000000000000 \n");

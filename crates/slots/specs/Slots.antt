@@ -1,6 +1,7 @@
 -- What is asked of slots, and what is done to them; `xs` are the slots, and the first `n` of them are in use.
 --
 --   Less a b r              == r is 1 where a is less than b, else 0
+--   Within L key lo hi      == those before lo are less than the key, those from hi on are not
 --   ZerosFrom xs n          == from n on every slot is zero
 --   clearedFrom xs n        == xs with zeros from n on
 --   opened xs at n          == the slots from `at` up to n, moved up three
@@ -13,10 +14,17 @@ use mathlib.Core.List.{List, _∷_, _++_}
 use mathlib.Core.Logic.{_⊎_}
 use mathlib.Core.Path.{_≡_}
 use Prim.Native.Nat.{ℕ, _+_, _-_, _<_, _≤_}
-use lib.ListN.{length, take, drop, replicate}
+use lib.ListN.{length, getD, take, drop, replicate}
 
 abbrev pub Less : ℕ → ℕ → ℕ → Type 0
 Less a b r = ((r ≡ 1) × (a < b)) ⊎ ((r ≡ 0) × (b ≤ a))
+
+-- what a search knows of where it ends
+pub record Within (L : List ℕ) (key lo hi : ℕ) : Type 0 where
+  pub order : lo ≤ hi
+  pub upto : hi ≤ length L
+  pub less : (i : ℕ) → i < lo → getD L i 0 < key
+  pub rest : (i : ℕ) → hi ≤ i → i < length L → key ≤ getD L i 0
 
 -- "then only zeros"
 abbrev pub ZerosFrom : List ℕ → ℕ → Type 0

@@ -3,7 +3,9 @@
 --   glyph d                   == the digit d below 16: `0` to `9`, then `a` to `f`
 --   digits b k n              == the last k digits of n in base b, the most significant first
 --   Put before after at end t == the text t is put in from `at` on, up to `end`; what stood before `at` stays
---   IsGlyph x d               == d is the digit, below 16, that the byte x shows; 16 if it shows none
+--   Shows x d                 == the byte x shows the digit d
+--   Digit x d                 == d is the digit that the byte x shows, or 16 if it shows none
+--   Reads bs k r              == what each case of the enum Reading says of the bytes, where k digits in base 16 are asked for
 --
 -- Assumes nothing.
 use mathlib.Core.Bool.{cond}
@@ -33,7 +35,6 @@ Shows x d = (d < 16) × (x ≡ glyph d)
 abbrev pub Digit : ℕ → ℕ → Type 0
 Digit x d = Shows x d ⊎ ((d ≡ 16) × ((e : ℕ) → Shows x e → ⊥))
 
--- what is read where k digits in base 16 are asked for
 abbrev pub Reads : List ℕ → ℕ → Reading → Type 0
 Reads bytes k (Number n) = (n < 16 ^ k) × (bytes ≡ digits 16 k n)
 Reads bytes k Other = (n : ℕ) → bytes ≡ digits 16 k n → ⊥

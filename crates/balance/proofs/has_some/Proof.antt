@@ -17,34 +17,34 @@ use Rattle.balance.proofs.Presence.{present-tells, present-none}
 use Rattle.balance.proofs.has_some.Statement.{statement}
 use Rattle.balance.proofs.has_some.Tie as tie
 
-below-requires : tie.Need-below-requires
-below-requires c κs = (c .before .pre .0, tiled-covers (c .before .pre .1 .tiled) .ascend)
+below-near-requires : tie.Need-below-near-requires
+below-near-requires c κs = (c .before .pre .0, tiled-covers (c .before .pre .1 .tiled) .ascend)
 
 returns : tie.Need-returns
 returns c =
     let s = c .before .before .before in
     let l = length-take-le (s .args .n) (s .args .slots .now) (s .pre .0) in
-    tells-no (present-none _ (s .args .code) (c .before .below .result) (s .pre .1) (c .before .below .ensures) (omega arith))
+    tells-no (present-none _ (s .args .code) (c .before .below-near .result) (s .pre .1) (c .before .below-near .ensures) (omega arith))
 
 mul-result : tie.Need-mul-result
 mul-result c =
     let s = c .before .before .before in
     let l = length-take-le (s .args .n) (s .args .slots .now) (s .pre .0) in
-    let h : c .before .below .result < length (s .args .slots .now) = omega (arith, c .before .below .ensures .upto) in
+    let h : c .before .below-near .result < length (s .args .slots .now) = omega (arith, c .before .below-near .ensures .upto) in
     search needs
 
 shared-slice-read-result : tie.Need-shared-slice-read-result
 shared-slice-read-result c =
     let s = c .before .before .before .before in
-    omega (arith, length-take-le (s .args .n) (s .args .slots .now) (s .pre .0), c .before .before .below .ensures .upto)
+    omega (arith, length-take-le (s .args .n) (s .args .slots .now) (s .pre .0), c .before .before .below-near .ensures .upto)
 
 returns-2 : tie.Need-returns-2
 returns-2 c =
     let s = c .before .before .before .before in
     let a = s .args in
     let L : List ℕ = take (a .n) (a .slots .now) in
-    let i = c .before .before .below .result in
-    let b = c .before .before .below .ensures in
+    let i = c .before .before .below-near .result in
+    let b = c .before .before .below-near .ensures in
     let l = length-take-le (a .n) (a .slots .now) (s .pre .0) in
     let h : i < length L = omega (arith, b .upto) in
     let e : getD L i 0 ≡ getD (a .slots .now) i 0 = getD-take (a .n) (a .slots .now) i 0 (omega arith) in
@@ -52,4 +52,4 @@ returns-2 c =
 
 pub has-some-spec : {M : Type 1} → statement M
 has-some-spec =
-    tie.close (tie.spec below-requires returns mul-result shared-slice-read-result returns-2)
+    tie.close (tie.spec below-near-requires returns mul-result shared-slice-read-result returns-2)

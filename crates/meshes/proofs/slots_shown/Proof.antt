@@ -1,9 +1,7 @@
 -- Nothing is promised; a turn is taken for each slot.
 -- Assumes nothing.
-use mathlib.Core.Path.{_≡_}
 use Prim.Native.Nat.{_-_, _≤_}
 use native.Mathlib.Omega.{arith}
-use lib.ListN.{length}
 use borrow.Author.Needs.{needs}
 use Rattle.meshes.proofs.slots_shown.Statement.{statement}
 use Rattle.meshes.proofs.slots_shown.Tie as tie

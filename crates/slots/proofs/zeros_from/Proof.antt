@@ -1,56 +1,47 @@
--- From `i` on every slot is zero; a slot that is not stands among those asked about.
+-- The slots from `n` up to `i` are joined, and what is joined is zero only where each of them is.
 -- Assumes nothing.
-use mathlib.Core.List.{List}
 use mathlib.Core.Path.{_≡_, subst}
-use Prim.Native.Nat.{ℕ, suc, _-_, _≤_}
+use Prim.Native.Nat.{ℕ, _-_, _≤_}
 use native.Mathlib.Omega.{arith}
 use borrow.Author.Needs.{needs}
 use lib.ListN.{length}
-use Rattle.refusals.proofs.Answers.{tells-yes, tells-no}
-use Rattle.slots.specs.Slots.{ZerosFrom}
-use Rattle.slots.proofs.Zeros.{zeros-none, zeros-more, zeros-at}
+use Rattle.slots.proofs.Zeros.{Joined, joined-none, joined-more, joined-tells}
 use Rattle.slots.proofs.zeros_from.Statement.{statement}
 use Rattle.slots.proofs.zeros_from.Tie as tie
 
 abbrev Inv-loop : tie.InvT-loop
-Inv-loop slots n i₀ i = (n ≤ i) × (i ≤ length slots) × ZerosFrom slots i
+Inv-loop slots n joined₀ i₀ joined i = (n ≤ i) × (i ≤ length slots) × Joined slots n i joined
 
 abbrev μ-loop : tie.MeasureT-loop
-μ-loop slots n i₀ i = i
+μ-loop slots n joined₀ i₀ joined i = length slots - i
 
 loop-holds : tie.Need-loop-holds Inv-loop μ-loop
-loop-holds c = (omega arith, omega arith, zeros-none (c .args .slots .now))
+loop-holds c = (omega arith, omega arith, joined-none (c .args .slots .now) (c .args .n))
 
-sub-i : tie.Need-sub-i Inv-loop μ-loop
-sub-i c = omega arith
+mul-joined : tie.Need-mul-joined Inv-loop μ-loop
+mul-joined c = search needs
 
-mul-if1 : tie.Need-mul-if1 Inv-loop μ-loop
-mul-if1 c = search needs
+shared-slice-read-joined : tie.Need-shared-slice-read-joined Inv-loop μ-loop
+shared-slice-read-joined c = omega arith
 
-shared-slice-read-if1 : tie.Need-shared-slice-read-if1 Inv-loop μ-loop
-shared-slice-read-if1 c = omega arith
-
-returns : tie.Need-returns Inv-loop μ-loop
-returns c =
-    let s = c .before .before .before .before in
-    let l = c .before .before .before .loop in
-    tells-no (λ z. c .if1 .taken (zeros-at (s .args .slots .now) (s .args .n) (l .i - 1) (omega arith) (omega arith) z))
+add-i : tie.Need-add-i Inv-loop μ-loop
+add-i c = omega arith
 
 loop-less : tie.Need-loop-less Inv-loop μ-loop
 loop-less c = omega arith
 
 loop-again : tie.Need-loop-again Inv-loop μ-loop
 loop-again c =
-    let xs : List ℕ = c .before .before .before .before .args .slots .now in
-    let l = c .before .before .before .loop in
-    let e : l .i ≡ suc (l .i - 1) = omega arith in
-    (omega arith, omega arith, zeros-more xs (l .i - 1) (omega arith) (c .if1 .left) (subst (ZerosFrom xs) e (l .inv .2)))
+    let a = c .before .before .before .args in
+    let l = c .before .before .loop in
+    (omega arith, omega arith, joined-more (a .slots .now) (a .n) (l .i) (l .joined) (omega arith) (omega arith) (l .inv .2))
 
-returns-2 : tie.Need-returns-2 Inv-loop μ-loop
-returns-2 c =
+returns : tie.Need-returns Inv-loop μ-loop
+returns c =
     let s = c .before .before in
-    let e : c .before .loop .i ≡ s .args .n = omega arith in
-    tells-yes (subst (ZerosFrom (s .args .slots .now)) e (c .before .loop .inv .2))
+    let l = c .before .loop in
+    let e : l .i ≡ length (s .args .slots .now) = omega arith in
+    joined-tells (s .args .slots .now) (s .args .n) (l .joined) (s .pre) (subst (λ (i : ℕ). Joined (s .args .slots .now) (s .args .n) i (l .joined)) e (l .inv .2))
 
 pub zeros-from-spec : {M : Type 1} → statement M
 zeros-from-spec =
@@ -59,10 +50,9 @@ zeros-from-spec =
     Inv-loop
     μ-loop
     loop-holds
-    sub-i
-    mul-if1
-    shared-slice-read-if1
-    returns
+    mul-joined
+    shared-slice-read-joined
+    add-i
     loop-less
     loop-again
-    returns-2)
+    returns)

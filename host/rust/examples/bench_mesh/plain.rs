@@ -1,5 +1,6 @@
 //! The calls in plain Rust, by the algorithms of the library and with all its checks: one linear pass that the leaves
-//! tile the faces, the zeros after them, the level test by last two digits, one step and one search, then the change.
+//! tile the faces, the zeros after them, the level test by last two digits, one step and one search that begins near the
+//! leaf, then the change.
 
 use crate::calls::{Answer, Call, Refusal};
 use crate::plain_step::{over_seam, refusal, FACES};
@@ -16,6 +17,9 @@ const ROOM: u64 = 15;
 
 const MOST_SLOTS: usize = 8192;
 const DEEPEST: u64 = 26;
+
+/// How far on each side of a guess the search looks first.
+const NEAR: usize = 64;
 
 /// The high bit of each digit of a path that stands left-aligned in a word.
 const HIGH_BITS: u64 = 0xaaaa_aaaa_aaaa_aaaa;
@@ -121,7 +125,8 @@ impl<'a> Mesh<'a> {
         let count = count_tiles(slots, solid, faces).ok_or(refused(MESH))?;
         let (leaves, rest) = slots.split_at(count);
         let mesh = Mesh { leaves, faces };
-        if rest.iter().all(|&slot| slot == 0) && leaves.iter().all(|&leaf| mesh.is_level(leaf)) {
+        let joined = rest.iter().fold(0, |joined, slot| joined | slot);
+        if joined == 0 && leaves.iter().enumerate().all(|(at, &leaf)| mesh.is_level(at, leaf)) {
             Ok(mesh)
         } else {
             Err(refused(MESH))
@@ -129,11 +134,11 @@ impl<'a> Mesh<'a> {
     }
 
     /// Whether no leaf across the leaf's parent is larger than the parent. Most leaves leave that to others.
-    fn is_level(&self, leaf: u64) -> bool {
+    fn is_level(&self, at: usize, leaf: u64) -> bool {
         if depth(leaf) < 2 {
             return true;
         }
-        let is_fine = |side| self.has_some_in(step(parent(leaf), side));
+        let is_fine = |side| self.has_some_in(at, step(parent(leaf), side));
         match leaf >> (57 - 2 * depth(leaf)) & 15 {
             0b0000 => is_fine(0) && is_fine(1),
             0b0100 => is_fine(0),
@@ -144,8 +149,9 @@ impl<'a> Mesh<'a> {
     }
 
     /// Whether some leaf is the cell or lies inside it; yes where the cell is on no face of the mesh.
-    fn has_some_in(&self, cell: u64) -> bool {
-        !self.has_face_of(cell) || self.leaves.get(self.below(cell)).map_or(false, |&leaf| place(leaf) == place(cell))
+    fn has_some_in(&self, guess: usize, cell: u64) -> bool {
+        let begins = |&leaf: &u64| place(leaf) == place(cell);
+        !self.has_face_of(cell) || self.leaves.get(self.below_near(guess, cell)).map_or(false, begins)
     }
 
     fn has_face_of(&self, cell: u64) -> bool {
@@ -155,6 +161,15 @@ impl<'a> Mesh<'a> {
     /// How many leaves are less than the key.
     fn below(&self, key: u64) -> usize {
         self.leaves.partition_point(|&leaf| leaf < key)
+    }
+
+    /// The same, in less time where that is near the guess.
+    fn below_near(&self, guess: usize, key: u64) -> usize {
+        let from = guess.saturating_sub(NEAR);
+        match self.leaves.get(from..from + 2 * NEAR) {
+            Some(near) if near[0] < key && key <= near[2 * NEAR - 1] => from + near.partition_point(|&leaf| leaf < key),
+            _ => self.below(key),
+        }
     }
 
     fn find(&self, leaf: u64) -> Option<usize> {
