@@ -12,7 +12,7 @@ use mathlib.Core.Path.{_≡_, refl, _∙_}
 use Prim.Native.Nat.{ℕ, zero, suc, _+_, _-_, _*_, _/_, _%_, _^_, _≤_, _<_}
 use native.Mathlib.Omega.{arith}
 use lib.Bits.{bitAnd, bitOr, bitXor}
-use lib.Dec.{ltb}
+use lib.Dec.{eqb}
 use Rattle.solids.specs.Triangles.{Side, left, right, vertical, sideOf}
 use Rattle.geometry.specs.Paths.{digitNo}
 use Rattle.geometry.specs.Steps.{stops, replaced, mirror}
@@ -90,7 +90,7 @@ module _ (w : ℕ) where
 
     pub by-carries : (s : Side) (d : ℕ) → d ≤ 26 → w < 2 ^ 64 → w % 4 ^ (32 - d) ≡ 0 → t ≡ 4 ^ (32 - d) - 1 →
         r ≡ rep (onRight s) 32 → v ≡ rep (onVertical s) 32 → y ≡ (climbs + 1) % 2 ^ 64 →
-        Carries s d w (bitXor w flips) (ltb y climbs)
+        Carries s d w (bitXor w flips) (eqb y 0)
     unfolding stops replaced
     by-carries s d h l e et er ev ey =
         let evens : Shows (slotsOf s d w) (λ k. 1) even = mask s d w h (λ s. 1) tt in

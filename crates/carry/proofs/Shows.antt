@@ -10,7 +10,7 @@ use mathlib.Core.Path.{_≡_, refl, sym, ap, ap₂, _∙_, subst}
 use Prim.Native.Nat.{ℕ, _+_, _-_, _*_, _/_, _%_, _^_, _<_}
 use native.Mathlib.Nat.{mod-eq-of-lt}
 use native.Mathlib.Omega.{arith}
-use borrow.Author.Tests.{lt-ltb, le-ltb}
+use borrow.Author.Tests.{eq-eqb, ne-eqb}
 use lib.Bits.{bitAnd, bitOr, bitXor, and-block, or-block, xor-block, and-lt, or-lt, xor-lt}
 use lib.Dec.{T, ltb, eqb, ltb→lt, eqb→eq}
 use lib.ListN.{length}
@@ -94,15 +94,15 @@ module _ {ks : List Slot} where
         (ap (λ (n : ℕ). n % 2 ^ 64) e ∙ mod-eq-of-lt (fits (λ k. f k * 2) (below (λ k. f k * 2) t) ks (a .wide)))
 
 -- a sum that wraps, and its lost carry
-wraps : (b : Bool) {p q : ℕ} → p + 1 ≡ bit b * 2 ^ 64 + q → p < 2 ^ 64 → q < 2 ^ 64 → ((p + 1) % 2 ^ 64 ≡ q) × (ltb q p ≡ b)
-wraps true {p} {q} e hp hq = (omega arith, lt-ltb q p (omega arith))
-wraps false {p} {q} e hp hq = (omega arith, le-ltb q p (omega arith))
+wraps : (b : Bool) {p q : ℕ} → p + 1 ≡ bit b * 2 ^ 64 + q → p < 2 ^ 64 → q < 2 ^ 64 → ((p + 1) % 2 ^ 64 ≡ q) × (eqb q 0 ≡ b)
+wraps true {p} {q} e hp hq = (omega arith, eq-eqb q 0 (omega arith))
+wraps false {p} {q} e hp hq = (omega arith, ne-eqb q 0 (omega arith))
 
 -- one added at the lowest place: the sum, and whether a carry is lost
 module _ (s : Side) (z : ℕ) (ds : List Digit) where
   pub plus : {f : Slot → ℕ} {x y : ℕ} → Shows (slots s z ds) f x → y ≡ (x + 1) % 2 ^ 64 →
       (g : Slot → ℕ) → T (every (λ k. eqb (f k + into k) (out k * 4 + g k))) → T (every (λ k. ltb (g k) 4)) →
-      Shows (slots s z ds) g y × (ltb y x ≡ crosses s ds)
+      Shows (slots s z ds) g y × (eqb y 0 ≡ crosses s ds)
   plus {f} {x} {y} a e g t l =
       let ks : List Slot = slots s z ds in
       let n : z + length ds ≡ 32 = sym (slots-length s z ds) ∙ a .wide in
@@ -111,4 +111,4 @@ module _ (s : Side) (z : ℕ) (ds : List Digit) where
       ∙ ap (λ (m : ℕ). bit (crosses s ds) * 4 ^ m + word g ks) n in
       let r = wraps (crosses s ds) c (fits f (a .small) ks (a .wide)) (fits g (below g l) ks (a .wide)) in
       let i : y ≡ word g ks = e ∙ ap (λ (m : ℕ). (m + 1) % 2 ^ 64) (a .is) ∙ r .0 in
-      (shown (a .wide) g l i, ap₂ ltb i (a .is) ∙ r .1)
+      (shown (a .wide) g l i, ap (λ (m : ℕ). eqb m 0) i ∙ r .1)

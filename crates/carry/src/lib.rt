@@ -45,7 +45,7 @@ pub fn carry(side: u64, path: u64, depth: u64) -> Carried
     // bit is 0.
     let stops = (path & !vertical ^ low & (right | vertical) ^ vertical) & high;
     // One is added at the bottom. The carry runs through the places after the last digit and through all digits that climb,
-    // up to the first that stops, or it is lost.
+    // up to the first that stops, or it is lost: then nothing is left.
     let climbs = !stops;
     let sum = std::num::wrapping_add_u64(climbs, 1);
     let reached = (climbs ^ sum) & high;
@@ -53,7 +53,7 @@ pub fn carry(side: u64, path: u64, depth: u64) -> Carried
     let flips = reached & (low ^ !right) | reached >> 1 & !vertical;
     Carried {
         path: path ^ flips,
-        lost: sum < climbs,
+        lost: sum == 0,
     }
 }
 

@@ -1,10 +1,13 @@
--- Another path, or another face and path, put into a code by masks: the fields beside it stay as they were.
+-- One of two words chosen by a mask. Another path, or another face and path, put into a code by masks: the fields beside it
+-- stay as they were.
 -- Assumes nothing.
+use mathlib.Core.Bool.{Bool, true, false, cond}
 use mathlib.Core.Path.{_≡_, refl, ap, ap₂, sym, _∙_}
-use Prim.Native.Nat.{ℕ, zero, suc, _+_, _*_, _/_, _%_, _^_, _<_}
+use Prim.Native.Nat.{ℕ, zero, suc, _+_, _-_, _*_, _/_, _%_, _^_, _<_}
 use native.Mathlib.Nat.{pow-suc, mod-lt, zero-add}
 use native.Mathlib.Omega.{arith}
-use lib.Bits.{bitAnd, bitOr, bitXor, and-block, and-mask, or-block, or-zero-r, or-shifted, or-shifted-r, xor-block, xor-zero-r, xor-lt}
+use mir.Val.{boolByte}
+use lib.Bits.{bitAnd, bitOr, bitXor, and-block, and-mask, and-zero-r, or-block, or-zero-r, or-shifted, or-shifted-r, xor-block, xor-zero-r, xor-lt}
 use lib.Dec.{lit<}
 use lib.Pow.{pow-pos, split}
 use Rattle.codes.specs.Codes.{solid, face, path, depth, joined}
@@ -31,6 +34,17 @@ xor-back (suc n) p q h k =
     ∙ xor-block 1 (p / 2) (bitXor (p / 2) (q / 2)) (p % 2) (bitXor (p % 2) (q % 2)) (omega arith) (xor-lt 1 (p % 2) (q % 2) (omega arith) (omega arith))
     ∙ ap₂ (λ (a c : ℕ). a * 2 ^ 1 + c) (xor-back n (p / 2) (q / 2) (omega arith) (omega arith)) (bit-back (p % 2) (q % 2) (omega arith) (omega arith))
     ∙ sym eq
+
+-- one of two words, by a mask m of ones or zeros
+
+pub chosen : (t : Bool) (a b m : ℕ) → a < 2 ^ 64 → b < 2 ^ 64 → m < 2 ^ 64 → (m + boolByte t) % 2 ^ 64 ≡ 0 →
+    bitOr (bitAnd a m) (bitAnd b ((2 ^ 64 - 1) - m)) ≡ cond t a b
+chosen true a b m ha hb hm e =
+    let o : m ≡ 2 ^ 64 - 1 = omega arith in
+    rw (o, and-zero-r b, or-zero-r, and-mask a 64) (omega arith)
+chosen false a b m ha hb hm e =
+    let o : m ≡ 0 = omega arith in
+    rw (o, and-zero-r a, and-mask b 64) (omega arith)
 
 module _ (x : ℕ) where
   -- another path, by what differs between the two

@@ -1,6 +1,6 @@
 -- From a code to the word of its path, from what either method leaves there to the neighbour's code.
 -- Assumes nothing.
-use mathlib.Core.Bool.{Bool, true, false}
+use mathlib.Core.Bool.{Bool, true, false, cond}
 use mathlib.Core.List.{List, map}
 use mathlib.Core.Path.{_≡_, ap, ap₂, sym, _∙_, subst}
 use Prim.Native.Nat.{ℕ, _+_, _-_, _*_, _/_, _%_, _^_, _<_, _≤_}
@@ -104,7 +104,7 @@ module _ (x s : ℕ) (c : Code x) where
   pub go-inside : {w : ℕ} → Over x s w false → joined (solid x) (face x) (w / 2 ^ 12) (depth x) ≡ stepCode s x
   go-inside o = ap (λ (p : ℕ). joined (solid x) (face x) p (depth x)) (over-path o) ∙ sym (inside-code x s c (sym (o .flag)))
 
-  pub go-straight : {w : ℕ} → Over x s w true → mirrored (solidOf (solid x)) (sideOf s) (face x) ≡ false →
+  go-straight : {w : ℕ} → Over x s w true → mirrored (solidOf (solid x)) (sideOf s) (face x) ≡ false →
       joined (solid x) (nextFace (solidOf (solid x)) (sideOf s) (face x)) (w / 2 ^ 12) (depth x) ≡ stepCode s x
   go-straight o m =
       ap (λ (p : ℕ). joined (solid x) (nextFace (solidOf (solid x)) (sideOf s) (face x)) p (depth x)) (over-path o)
@@ -115,10 +115,22 @@ module _ (x s : ℕ) (c : Code x) where
       k (depth x) (c .deep) (aligned x w c e) ∙ ap (λ (l : List Digit). wordOf (depth x) (map mirror l)) (digits-same x w c e)
       ∙ word-path (depth x) (map mirror (cellOf x .path)) (c .deep) (length-map (cellOf x .path) mirror ∙ cell-depth x)
 
-  pub go-mirrored : {w : ℕ} → Over x s w true → mirrored (solidOf (solid x)) (sideOf s) (face x) ≡ true →
+  go-mirrored : {w : ℕ} → Over x s w true → mirrored (solidOf (solid x)) (sideOf s) (face x) ≡ true →
       (p : ℕ) → p ≡ pathOf (map mirror (cellOf x .path)) * 2 ^ 12 →
       joined (solid x) (nextFace (solidOf (solid x)) (sideOf s) (face x)) (p / 2 ^ 12) (depth x) ≡ stepCode s x
   go-mirrored o m p q =
       let e : p / 2 ^ 12 ≡ pathOf (map mirror (cellOf x .path)) = omega arith in
       ap (λ (n : ℕ). joined (solid x) (nextFace (solidOf (solid x)) (sideOf s) (face x)) n (depth x)) e
       ∙ sym (mirrored-code x s c (sym (o .flag)) m)
+
+  -- over a seam of either kind
+
+  pub over-chosen : (m : Bool) {w p : ℕ} {b : Bool} → Over x s w b → p ≡ pathOf (map mirror (cellOf x .path)) * 2 ^ 12 → cond m p w % 2 ^ 12 ≡ 0
+  over-chosen true o q = omega arith
+  over-chosen false o q = over-tidy o
+
+  pub go-over : (m : Bool) {w p : ℕ} → Over x s w true → m ≡ mirrored (solidOf (solid x)) (sideOf s) (face x) →
+      p ≡ pathOf (map mirror (cellOf x .path)) * 2 ^ 12 →
+      joined (solid x) (nextFace (solidOf (solid x)) (sideOf s) (face x)) (cond m p w / 2 ^ 12) (depth x) ≡ stepCode s x
+  go-over true {w} {p} o e q = go-mirrored o (sym e) p q
+  go-over false o e q = go-straight o (sym e)

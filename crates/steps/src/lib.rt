@@ -1,6 +1,6 @@
 // The step over a side of a triangle, on codes, by two methods: by carries, on the whole path at once, and by digits.
 
-ghost use mathlib.Core.Bool.{true};
+ghost use mathlib.Core.Bool.{true, cond};
 ghost use mathlib.Core.Path.{_≡_};
 ghost use Prim.Native.Nat.{ℕ, _*_, _/_, _%_, _^_, _<_};
 ghost use Rattle.refusals.specs.Refusals.{Single};
@@ -37,6 +37,14 @@ fn with_face(code: u64, face: u64, new: u64) -> u64
     code & 0xc000_0000_0000_001f | face << 57 | new >> 7
 }
 
+// One of two words, by a mask: no branch has to guess which.
+fn choose(first: bool, a: u64, b: u64) -> u64
+    ensures { λ r. ⌜ r ≡ cond first a b ⌝ }
+{
+    let mask = std::num::wrapping_sub_u64(0, first as u64);
+    a & mask | b & !mask
+}
+
 // The neighbour's code over a seam; `word` is what the walk left of the path.
 fn over_seam(code: u64, side: u64, word: u64) -> u64
     requires { ⌜ Code code × (side < 3) × Over code side word true ⌝ }
@@ -45,10 +53,9 @@ fn over_seam(code: u64, side: u64, word: u64) -> u64
     let solid = codes::solid_of(code);
     let face = codes::face_of(code);
     let next = solids::next_face(solid, side, face);
-    if solids::is_mirrored(solid, side, face) {
-        return with_face(code, next, carry::mirror(word_of(code)));
-    }
-    with_face(code, next, word)
+    let turned = carry::mirror(word_of(code));
+    let path = choose(solids::is_mirrored(solid, side, face), turned, word);
+    with_face(code, next, path)
 }
 
 // The neighbour's code, by carries.
