@@ -2,7 +2,7 @@
 -- Assumes nothing.
 use mathlib.Core.List.{map}
 use mathlib.Core.Path.{_≡_, ap₂, _∙_}
-use Prim.Native.Nat.{ℕ, _*_, _/_, _%_, _^_, _<_}
+use Prim.Native.Nat.{ℕ, _*_, _/_, _^_, _<_}
 use borrow.Author.Needs.{needs}
 use Rattle.solids.specs.Solids.{solidOf, nextFace, mirrored}
 use Rattle.solids.specs.Triangles.{sideOf}
