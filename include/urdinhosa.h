@@ -1,7 +1,8 @@
 /* Urdinhosa: location codes of triangles on the tetrahedron, the octahedron and the icosahedron, and balanced meshes.
  *
  * A code is one 64-bit number. From the top: 2 bits solid (1 tetrahedron, 2 octahedron, 3 icosahedron), 5 bits face,
- * 52 bits path (one two-bit digit a level, the first on top, zeros after the last), 5 bits depth (0 to 26).
+ * 52 bits path (one two-bit digit a level, the first on top, zeros after the last), 5 bits depth (0 to 26). Pictures of
+ * the solids, of their faces and vertices and of a cell's digits are in docs/SOLIDS.md.
  *
  * Every function answers every input. A bad input is refused by its number, one of the constants below; the first cause
  * in a function's list wins. No code is below 2^62, so a code is never taken for the number of a refusal.
@@ -68,7 +69,7 @@ enum urdinhosa_refusal {
     URDINHOSA_NOT_LEAF = 12, /* the code of a cell that is no leaf of this mesh */
     URDINHOSA_NOT_FOUR = 13, /* some child of the cell is no leaf of this mesh */
     URDINHOSA_BLOCKED = 14, /* a leaf across a side is in the way */
-    URDINHOSA_ROOM = 15  /* too few slots */
+    URDINHOSA_ROOM = 15  /* too few slots: fresh needs one for each face, refine three that are free */
 };
 
 /* The code of a cell, from its parts.
@@ -100,7 +101,7 @@ uint64_t urdinhosa_unpack(uint64_t code, uint64_t fields[4]);
  */
 uint64_t urdinhosa_parent(uint64_t code);
 
-/* A child of a cell.
+/* A child of a cell: by digit 0 the one at the tip, 1 at the left corner, 3 at the right corner, 2 in the middle, turned over.
  *
  * code   in: any number
  * digit  in: 0 to 3
@@ -119,7 +120,12 @@ uint64_t urdinhosa_child(uint64_t code, uint64_t digit);
  */
 uint64_t urdinhosa_step(uint64_t code, uint64_t direction);
 
-/* The same triangle, with the same answer for every input, worked out digit by digit.
+/* The same triangle, worked out digit by digit: parameters and answer are those of urdinhosa_step, for every input.
+ *
+ * code       in: any number
+ * direction  in: 0 left, 1 right, 2 vertical
+ *
+ * Returns the neighbour's code, or else SOLID, FACE, DEPTH, TAIL or DIRECTION.
  */
 uint64_t urdinhosa_walk(uint64_t code, uint64_t direction);
 

@@ -39,7 +39,7 @@ row n c = record { number = n; case = c }
 abbrev pub coded : ℕ → ℕ → ℕ → ℕ → ℕ
 coded s f p d = joined s f (p * 4 ^ (26 - d)) d
 
--- 1: the path pair is that of 001. 2: path 10100111 vertical is 10000111, on the same face of any solid. 3: path 0011110011
+-- 1: the path pair is that of 001. 2: path 10100111 vertical is 10000111, same face, on a face of each solid. 3: path 0011110011
 -- right, on icosahedron faces 5 (to face 10, path 0100000100) and 0 (to face 1, path 0001010001). 4: tetrahedron face 0,
 -- path 01, vertical, to face 2, path 11. 5: tetrahedron face 3, path 11, right, to face 0, path 00. 6: octahedron face 3
 -- right, to face 0. 7: code 0 is SOLID; octahedron face 8 is FACE, face 7 is fine. 8: depth 27 is DEPTH, 26 is fine;

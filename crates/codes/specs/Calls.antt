@@ -2,6 +2,8 @@
 --
 --   Checked x n        == n is the number for the code x: its first fault, or 0
 --   Packed s f p d r   == r is the reply for packing a solid, a face, a path and a depth
+--   Unpacking          == what unpacking answers: a number and the four fields
+--   unpacked, notUnpacked == done with these fields; a refusal: its number and four zeros
 --   Unpacked x u       == u is the reply for unpacking the code x
 --   ParentOf x r       == r is the reply for the parent of x
 --   ChildOf x q r      == r is the reply for the child of x of digit q

@@ -5,11 +5,11 @@ ghost use Prim.Native.Nat.{ℕ, _+_, _-_, _*_, _^_, _≤_, _<_};
 ghost use Rattle.solids.specs.Triangles.{Corner};
 ghost use Rattle.refusals.specs.Refusals.{Single};
 ghost use Rattle.refusals.specs.Answers.{done, reply};
-ghost use Rattle.geometry.specs.Corners.{childCorners};
-ghost use Rattle.geometry.specs.Paths.{digitOf};
+ghost use Rattle.geometry.specs.Corners.{Digit, childCorners};
+ghost use Rattle.geometry.specs.Paths.{digitOf, digitNo};
 ghost use Rattle.geometry.specs.Cells.{Cell, WellFormed, depthOf, corner, parent, child};
 ghost use Rattle.codes.specs.Codes.{solid, face, path, depth, joined, faults, Code, cellOf, codeOf, Within, Descends};
-ghost use Rattle.codes.specs.Places.{place, past, codeAt};
+ghost use Rattle.codes.specs.Places.{place, past, codeAt, CodeOn, childCode, parentCode};
 ghost use Rattle.codes.specs.Calls.{Checked, Packed, unpacked, Unpacked, fields, ParentOf, ChildOf, SomeChild};
 use refusals::Answer;
 
@@ -194,6 +194,14 @@ pub fn a_child_has_the_corners_of_the_table()
 // Numeric order of codes puts an ancestor before its descendants.
 pub fn an_ancestor_comes_before_its_descendants()
     ensures { λ _. ⌜ ((x y : ℕ) → Code x → Code y → Descends x y → x < y) ⌝ }
+{}
+
+// Read by its place, a well-formed code is the same code, and its children and its parent are those of its cell.
+pub fn places_tell_codes_children_and_parents()
+    ensures { λ _. ⌜ ((x : ℕ) → Code x → CodeOn (solid x) x) ⌝ }
+    ensures { λ _. ⌜ ((S x : ℕ) → CodeOn S x → Code x × (solid x ≡ S)) ⌝ }
+    ensures { λ _. ⌜ ((x : ℕ) (q : Digit) → Code x → depth x < 26 → codeOf (child (cellOf x) q) ≡ childCode x (digitNo q)) ⌝ }
+    ensures { λ _. ⌜ ((x : ℕ) → Code x → 0 < depth x → codeOf (parent (cellOf x)) ≡ parentCode x) ⌝ }
 {}
 
 // The cells of depth 26 inside a cell are those at the places of its interval.

@@ -22,7 +22,7 @@ use Rattle.text.specs.Text.{digits, Put, Reads}
 use Rattle.text.specs.declared.Reading.{Reading}
 use Rattle.text.specs.declared.Reading.the-variants.{Number, Other}
 use Rattle.text.proofs.Text.{length-digits, put-after}
-use Rattle.listing.specs.Listing.{newline, space, R, C, solidLine, orderLine, SolidFirst, OrderFirst, refused, places, answer}
+use Rattle.listing.specs.Listing.{newline, space, R, C, solidLine, orderLine, SolidFirst, OrderFirst, refusedWord, width, answer}
 use Rattle.listing.specs.Lines.{OrderIs}
 
 pub solid-made : (B : List ℕ) (d : ℕ) → 2 ≤ length B → d < 10 → getD B 0 0 ≡ 48 + d → getD B 1 0 ≡ newline → SolidFirst B d
@@ -88,13 +88,13 @@ module _ (B : List ℕ) (l c : ℕ) where
     pub order-end : getD B 18 0 ≡ newline
     order-end = ap (λ (t : List ℕ). getD t 18 0) is-parts ∙ getD-at (digits 16 16 c) newline (drop 19 B) 0 16 (length-digits 16 16 c)
 
-pub answer-put : (a b c d : List ℕ) (at m e end number : ℕ) → number ≢ 0 → Put a b at m refused → Put b c m e (digits 10 (places number) number) → Put c d e end (newline ∷ []) →
+pub answer-put : (a b c d : List ℕ) (at m e end number : ℕ) → number ≢ 0 → Put a b at m refusedWord → Put b c m e (digits 10 (width number) number) → Put c d e end (newline ∷ []) →
     Put a d at end (answer number)
 answer-put a b c d at m e end zero n p q r = absurd (n refl)
 answer-put a b c d at m e end (suc k) n p q r = put-after p (put-after q r)
 
-pub places-short : (k : ℕ) → places k ≤ 2
-places-short k = go (ltb k 10)
+pub width-short : (k : ℕ) → width k ≤ 2
+width-short k = go (ltb k 10)
   where
     go : (b : Bool) → cond b 1 2 ≤ 2
     go true = omega arith
@@ -103,8 +103,8 @@ places-short k = go (ltb k 10)
 pub answer-short : (k : ℕ) → length (answer k) ≤ 11
 answer-short zero = omega arith
 answer-short (suc k) =
-    let number = digits 10 (places (suc k)) (suc k) in
-    omega (arith, length-append refused (number ++ (newline ∷ [])), length-append number (newline ∷ []), length-digits 10 (places (suc k)) (suc k), places-short (suc k))
+    let number = digits 10 (width (suc k)) (suc k) in
+    omega (arith, length-append refusedWord (number ++ (newline ∷ [])), length-append number (newline ∷ []), length-digits 10 (width (suc k)) (suc k), width-short (suc k))
 
 -- a line that begins at a place
 module _ (xs : List ℕ) (at : ℕ) where

@@ -1,15 +1,19 @@
 -- What `meshlist` prints for an input. Bytes and text are ASCII codes.
 --
+--   newline, space, R, C == the bytes of these names
 --   solidLine d       == the line of the digit d
 --   orderLine l c     == the line of an order: the letter l, a space, the 16 hexadecimal digits of c
 --   SolidFirst bs d   == the bytes begin with the solid line of d
 --   OrderFirst bs l c == the bytes begin with the order line of l and c
 --   Done l xs c o     == o is the outcome of the order l and c on the mesh in the slots xs
 --   unreadable        == the line `unreadable`
+--   refusedWord       == the word `refused` and a space
+--   width k           == how many digits the number k has
 --   answer k          == what a call with the number k prints
 --   difference m      == the level difference of what a side meets, after a space
 --   LeafLine L a t    == t is the line of the leaf a among the leaves L
 --   LeafLines L A t   == t are the lines of the leaves A among the leaves L
+--   bare              == 8,192 slots with nothing in them
 --   Goes xs bs t      == with the mesh in the slots xs, the bytes bs that are left print t
 --   Prints bs t       == the input bs prints t
 --
@@ -69,17 +73,17 @@ abbrev pub unreadable : List ℕ
 unreadable = 117 ∷ 110 ∷ 114 ∷ 101 ∷ 97 ∷ 100 ∷ 97 ∷ 98 ∷ 108 ∷ 101 ∷ newline ∷ []
 
 -- r, e, f, u, s, e, d
-abbrev pub refused : List ℕ
-refused = 114 ∷ 101 ∷ 102 ∷ 117 ∷ 115 ∷ 101 ∷ 100 ∷ space ∷ []
+abbrev pub refusedWord : List ℕ
+refusedWord = 114 ∷ 101 ∷ 102 ∷ 117 ∷ 115 ∷ 101 ∷ 100 ∷ space ∷ []
 
 -- no refusal's number has more than two digits
-abbrev pub places : ℕ → ℕ
-places k = cond (ltb k 10) 1 2
+abbrev pub width : ℕ → ℕ
+width k = cond (ltb k 10) 1 2
 
 -- "A refused line prints `refused`, a space and the number"
 abbrev pub answer : ℕ → List ℕ
 answer zero = []
-answer (suc k) = refused ++ (digits 10 (places (suc k)) (suc k) ++ (newline ∷ []))
+answer (suc k) = refusedWord ++ (digits 10 (width (suc k)) (suc k) ++ (newline ∷ []))
 
 -- "the neighbouring leaf's level minus its own": 45 is the sign `-`, 48 and 49 are `0` and `1`; no side of a whole solid is open
 abbrev pub difference : Met → List ℕ

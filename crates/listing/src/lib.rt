@@ -14,7 +14,7 @@ ghost use Rattle.sides.specs.Sides.{InMesh};
 ghost use Rattle.examine.specs.Examined.{wholeOf};
 ghost use Rattle.mesh.specs.Calls.{Held};
 ghost use Rattle.listing.specs.Listing.{R, C, SolidFirst, unreadable, answer, difference, LeafLine, LeafLines, Goes, Prints};
-ghost use Rattle.listing.specs.Listing.{places as Listing·places};
+ghost use Rattle.listing.specs.Listing.{width as Listing·width};
 ghost use Rattle.listing.specs.Lines.{SolidIs, OrderIs, Printed, Grown, Obeyed};
 use examine::Seen;
 use soundness::Met;
@@ -31,8 +31,8 @@ fn put_unreadable(page: &mut [u8], at: usize) -> usize
 }
 
 // How many digits a refusal's number has.
-fn places(number: u64) -> usize
-    ensures { λ r. ⌜ r ≡ Listing·places number ⌝ }
+fn width(number: u64) -> usize
+    ensures { λ r. ⌜ r ≡ Listing·width number ⌝ }
 {
     if number < 10 { 1 } else { 2 }
 }
@@ -46,7 +46,7 @@ fn put_answer(page: &mut [u8], at: usize, number: u64) -> usize
         return at;
     }
     let word = text::put(page, at, b"refused ");
-    let line = text::put_digits(page, word, 10, places(number), number);
+    let line = text::put_digits(page, word, 10, width(number), number);
     text::put(page, line, b"\n")
 }
 

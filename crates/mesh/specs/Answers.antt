@@ -2,6 +2,8 @@
 --
 --   Outcome        == a reply and the slots after the call
 --   told n v       == the reply of the number n and the value v
+--   blocked b      == BLOCKED, with the least blocking leaf
+--   notCrossed k, noBounds k == a refusal: its number, and 0 in every other part
 --   changeReply e  == the number and value of each case of the enum Change
 --   Crossing       == number, level difference and two codes
 --   crossing m     == those of what a side meets

@@ -9,6 +9,13 @@
 --   RunOf Q xs c ys       == ys are the slots of the run under the cell c
 --   CountOf Q xs c r      == r is the reply for the number of leaves in that run
 --   Held xs n             == the slots hold a sound whole mesh of n leaves: what an inner function rests on
+--   kept xs k             == the outcome of a refusal: its number, and the slots as they were
+--   meshFaults            == what every call on a mesh asks first
+--   unlessBlocked, BlockedBy == a change is stopped by the least leaf in its way, or goes on
+--   refineEnd, refineLeafEnd, coarsenEnd, coarsenLeavesEnd, acrossEnd, boundsEnd == what is asked from a point in the sequence on
+--   Crossed xs c s a      == a are the parts of what side s of the leaf c meets
+--   Bounded xs c p        == p is where the run under c starts and how many leaves it has, and the part of the slots holds them
+--   comeBefore, startOf   == how many leaves come before the run; where it starts, 0 if it is empty
 --
 -- Assumes nothing.
 use mathlib.Core.Bool.{cond}

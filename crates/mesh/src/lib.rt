@@ -2,6 +2,7 @@
 // once and then goes on with inner functions, which rest on a sound mesh and its count. No call has a `requires`, and a
 // refusal writes nothing.
 
+ghost use mathlib.Core.Bool.{Bool};
 ghost use mathlib.Core.List.{List};
 ghost use mathlib.Core.Path.{_≡_};
 ghost use Prim.Native.Nat.{ℕ, _+_, _-_, _<_, _≤_};
@@ -279,6 +280,7 @@ pub fn count(slots: &[u64], cell: u64) -> Counted
 
 // For any slots and numbers each call has one answer, the slots after it included.
 pub fn each_call_on_a_mesh_has_one_answer()
+    ensures { λ _. ⌜ ((xs : List ℕ) → Single (λ (b : Bool). Tells b (SoundIn (wholeOf xs) xs))) ⌝ }
     ensures { λ _. ⌜ ((S Q : ℕ) (xs : List ℕ) → Single (Freshened S Q xs)) ⌝ }
     ensures { λ _. ⌜ ((Q : ℕ) (xs : List ℕ) (c : ℕ) → Single (Refined Q xs c)) ⌝ }
     ensures { λ _. ⌜ ((Q : ℕ) (xs : List ℕ) (c : ℕ) → Single (Coarsened Q xs c)) ⌝ }

@@ -1,4 +1,4 @@
--- Laws of answers: done is no refusal; tests on numbers tell what they say.
+-- Laws of answers: done is no refusal; yes or no is one answer; tests on numbers tell what they say.
 -- Assumes nothing.
 use mathlib.Core.Bool.{Bool, true, false, true≢false, _&&_}
 use mathlib.Core.Path.{_≡_, refl, ap, sym}
@@ -6,6 +6,7 @@ use Prim.Native.Nat.{ℕ, _<_, _≤_}
 use native.Mathlib.Omega.{arith}
 use borrow.Author.Tests.{leb-true, leb-false, ltb-true, ltb-false, eqb-true, eqb-false}
 use lib.Dec.{leb, ltb, eqb}
+use Rattle.refusals.specs.Refusals.{Single}
 use Rattle.refusals.specs.Answers.{Reply, done, refused, Tells}
 
 pub done-differs : (v k : ℕ) → 0 < k → done v ≡ refused k → ⊥
@@ -19,6 +20,12 @@ tells-yes p = record { yes = λ e. p; no = λ e q. true≢false e }
 
 pub tells-no : {P : Type 0} → (P → ⊥) → Tells false P
 tells-no n = record { yes = λ e. absurd (true≢false (sym e)); no = λ e q. n q }
+
+pub tells-single : {P : Type 0} → Single (λ (b : Bool). Tells b P)
+tells-single true true s t = refl
+tells-single true false s t = absurd (t .no refl (s .yes refl))
+tells-single false true s t = absurd (s .no refl (t .yes refl))
+tells-single false false s t = refl
 
 pub tells-le : (m n : ℕ) → Tells (leb m n) (m ≤ n)
 tells-le m n = record { yes = leb-true m n; no = λ e h. omega (arith, leb-false m n e) }

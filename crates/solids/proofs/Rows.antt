@@ -1,16 +1,15 @@
 -- The rows of a solid, by number: the row of a direction, the row of a corner.
 -- Assumes nothing.
 use mathlib.Core.Bool.{Bool, _&&_, _||_}
-use mathlib.Core.List.{List, [], _∷_, _++_, map}
+use mathlib.Core.List.{List, [], _∷_, map}
 use mathlib.Core.Path.{_≡_, refl, _∙_, ap}
-use Prim.Native.Nat.{ℕ, zero, suc, _+_, _*_, _/_, _%_, _^_, _<_}
+use Prim.Native.Nat.{ℕ, zero, suc, _+_, _*_, _/_, _^_, _<_}
 use native.Mathlib.Omega.{arith}
 use lib.Bits.{bitAnd}
-use lib.Dec.{T, eqb, ltb, leb, eqb→eq}
+use lib.Dec.{eqb, ltb, leb}
 use lib.ListN.{length, getD}
 use Rattle.solids.specs.Triangles.{Side, left, right, vertical, sideOf, Corner, tip, lft, rgt, cornerOf}
-use Rattle.solids.specs.Solids.{Solid, Known, solidNo, solidOf, tetrahedron, octahedron, icosahedron, faces, face, faceList, at, vertex, nextRow, nextFace, mirrored}
-use Rattle.solids.proofs.Tests.{below, below-at, sides-all, sides-at}
+use Rattle.solids.specs.Solids.{Solid, solidNo, tetrahedron, octahedron, icosahedron, faces, face, faceList, at, vertex, nextRow, nextFace, mirrored}
 
 -- the rows for a function of the sides, of the corners
 abbrev pub bySide : {A : Type 0} → (Side → A) → List A
@@ -46,50 +45,8 @@ face-count tetrahedron = refl
 face-count octahedron = refl
 face-count icosahedron = refl
 
--- the next faces of all solids in one row, four to a part, and where those of a solid begin
-abbrev fours : List ℕ → List (List ℕ)
-fours [] = []
-fours (a ∷ []) = (a ∷ []) ∷ []
-fours (a ∷ b ∷ []) = (a ∷ b ∷ []) ∷ []
-fours (a ∷ b ∷ c ∷ []) = (a ∷ b ∷ c ∷ []) ∷ []
-fours (a ∷ b ∷ c ∷ d ∷ xs) = (a ∷ b ∷ c ∷ d ∷ []) ∷ fours xs
-
-abbrev pub allNext : Side → List (List ℕ)
-allNext d = fours (nextRow tetrahedron d ++ (nextRow octahedron d ++ nextRow icosahedron d))
-
-abbrev pub inFours : List (List ℕ) → ℕ → ℕ
-inFours row k = getD (getD row (k / 4) []) (k % 4) 0
-
-abbrev pub before : Solid → ℕ
-before tetrahedron = 0
-before octahedron = 4
-before icosahedron = 12
-
-pub before-told : (s : ℕ) → Known s → (2 * 2 ^ s) % 2 ^ 64 ≡ before (solidOf s) + 4
-before-told zero h = absurd (omega (arith, h .0))
-before-told (suc zero) h = refl
-before-told (suc (suc zero)) h = refl
-before-told (suc (suc (suc zero))) h = refl
-before-told (suc (suc (suc (suc n)))) h = absurd (omega (arith, h .1))
-
-pub in-row : (so : Solid) (f : ℕ) → f < faces so → before so + f < 32
-in-row tetrahedron f h = omega arith
-in-row octahedron f h = omega arith
-in-row icosahedron f h = omega arith
-
-abbrev rowTest : Solid → Side → ℕ → Bool
-rowTest so d f = eqb (inFours (allNext d) (before so + f)) (nextFace so d f)
-
-rows-tested : (so : Solid) → T (sides-all (λ d. below (rowTest so d) (faces so)))
-unfolding nextRow
-rows-tested tetrahedron = tt
-rows-tested octahedron = tt
-rows-tested icosahedron = tt
-
-pub next-read : (so : Solid) (s f : ℕ) → s < 3 → f < faces so → inFours (getD (bySide allNext) s []) (before so + f) ≡ nextFace so (sideOf s) f
-next-read so s f h k =
-    ap (λ (row : List (List ℕ)). inFours row (before so + f)) (side-row [] allNext s h)
-    ∙ eqb→eq _ _ (below-at (rowTest so (sideOf s)) (faces so) (sides-at (λ d. below (rowTest so d) (faces so)) (rows-tested so) (sideOf s)) f k)
+pub next-read : (so : Solid) (s f : ℕ) → s < 3 → getD (getD (bySide (nextRow so)) s []) f 0 ≡ nextFace so (sideOf s) f
+next-read so s f h = ap (λ (row : List ℕ). getD row f 0) (side-row [] (nextRow so) s h)
 
 pub vertex-read : (so : Solid) (f p : ℕ) → f < faces so → p < 3 → getD (getD (byCorner (cornerRow so)) p []) f 0 ≡ vertex so f (cornerOf p)
 vertex-read so f p h k =

@@ -6,7 +6,9 @@
 --   solidOf s       == the solid that the number s names
 --   faces so        == how many faces it has, counted from 0
 --   vertices so     == how many vertices it has, counted from 0
+--   Face, faceList  == tip, left and right vertex of a face; the faces of a solid
 --   vertex so f p   == the vertex at corner p of face f
+--   nextRow so s    == the next faces over side s, for each face
 --   nextFace so s f == the face across side s of face f
 --   mirrored so s f == the seam across side s of face f is mirrored
 --

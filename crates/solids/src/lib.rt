@@ -18,11 +18,21 @@ impl Tetrahedron {
     // The vertices at the faces' tips, left and right corners.
     const CORNERS: [[u8; 4]; 3] = [[2, 1, 3, 0], [0, 2, 1, 3], [1, 3, 0, 2]];
 
+    // The next faces to the left, to the right and vertically.
+    const NEXT: [[u8; 4]; 3] = [[3, 0, 1, 2], [1, 2, 3, 0], [2, 3, 0, 1]];
+
     fn vertex(face: usize, corner: usize) -> u64
         requires { ⌜ (face < 4) × (corner < 3) ⌝ }
         ensures { λ r. ⌜ r ≡ vertex tetrahedron face (cornerOf corner) ⌝ }
     {
         wide(Tetrahedron::CORNERS[corner][face])
+    }
+
+    fn next_face(side: usize, face: usize) -> u64
+        requires { ⌜ (side < 3) × (face < 4) ⌝ }
+        ensures { λ r. ⌜ r ≡ nextFace tetrahedron (sideOf side) face ⌝ }
+    {
+        wide(Tetrahedron::NEXT[side][face])
     }
 }
 
@@ -39,11 +49,24 @@ impl Octahedron {
         [2, 3, 4, 1, 2, 3, 4, 1],
     ];
 
+    const NEXT: [[u8; 8]; 3] = [
+        [3, 0, 1, 2, 7, 4, 5, 6],
+        [1, 2, 3, 0, 5, 6, 7, 4],
+        [4, 5, 6, 7, 0, 1, 2, 3],
+    ];
+
     fn vertex(face: usize, corner: usize) -> u64
         requires { ⌜ (face < 8) × (corner < 3) ⌝ }
         ensures { λ r. ⌜ r ≡ vertex octahedron face (cornerOf corner) ⌝ }
     {
         wide(Octahedron::CORNERS[corner][face])
+    }
+
+    fn next_face(side: usize, face: usize) -> u64
+        requires { ⌜ (side < 3) × (face < 8) ⌝ }
+        ensures { λ r. ⌜ r ≡ nextFace octahedron (sideOf side) face ⌝ }
+    {
+        wide(Octahedron::NEXT[side][face])
     }
 }
 
@@ -81,57 +104,89 @@ impl Icosahedron {
         [2, 3, 4, 5, 1, 2, 3, 4, 5, 1, 7, 8, 9, 10, 6, 7, 8, 9, 10, 6],
     ];
 
+    const NEXT: [[u8; 20]; 3] = [
+        [
+            4,
+            0,
+            1,
+            2,
+            3,
+            14,
+            10,
+            11,
+            12,
+            13,
+            5,
+            6,
+            7,
+            8,
+            9,
+            19,
+            15,
+            16,
+            17,
+            18,
+        ],
+        [
+            1,
+            2,
+            3,
+            4,
+            0,
+            10,
+            11,
+            12,
+            13,
+            14,
+            6,
+            7,
+            8,
+            9,
+            5,
+            16,
+            17,
+            18,
+            19,
+            15,
+        ],
+        [
+            5,
+            6,
+            7,
+            8,
+            9,
+            0,
+            1,
+            2,
+            3,
+            4,
+            15,
+            16,
+            17,
+            18,
+            19,
+            10,
+            11,
+            12,
+            13,
+            14,
+        ],
+    ];
+
     fn vertex(face: usize, corner: usize) -> u64
         requires { ⌜ (face < 20) × (corner < 3) ⌝ }
         ensures { λ r. ⌜ r ≡ vertex icosahedron face (cornerOf corner) ⌝ }
     {
         wide(Icosahedron::CORNERS[corner][face])
     }
-}
 
-// The next faces to the left, to the right and vertically. The solids stand in one row, one after the other, so that no branch
-// has to choose between them; four faces to a line.
-const NEXT: [[[u8; 4]; 8]; 3] = [
-    [
-        // tetrahedron
-        [3, 0, 1, 2],
-        // octahedron
-        [3, 0, 1, 2],
-        [7, 4, 5, 6],
-        // icosahedron
-        [4, 0, 1, 2],
-        [3, 14, 10, 11],
-        [12, 13, 5, 6],
-        [7, 8, 9, 19],
-        [15, 16, 17, 18],
-    ],
-    [
-        // tetrahedron
-        [1, 2, 3, 0],
-        // octahedron
-        [1, 2, 3, 0],
-        [5, 6, 7, 4],
-        // icosahedron
-        [1, 2, 3, 4],
-        [0, 10, 11, 12],
-        [13, 14, 6, 7],
-        [8, 9, 5, 16],
-        [17, 18, 19, 15],
-    ],
-    [
-        // tetrahedron
-        [2, 3, 0, 1],
-        // octahedron
-        [4, 5, 6, 7],
-        [0, 1, 2, 3],
-        // icosahedron
-        [5, 6, 7, 8],
-        [9, 0, 1, 2],
-        [3, 4, 15, 16],
-        [17, 18, 19, 10],
-        [11, 12, 13, 14],
-    ],
-];
+    fn next_face(side: usize, face: usize) -> u64
+        requires { ⌜ (side < 3) × (face < 20) ⌝ }
+        ensures { λ r. ⌜ r ≡ nextFace icosahedron (sideOf side) face ⌝ }
+    {
+        wide(Icosahedron::NEXT[side][face])
+    }
+}
 
 // A bit for each side of each solid, the icosahedron's first: whether seams across it are mirrored. The last three are of no
 // solid.
@@ -184,9 +239,11 @@ pub fn next_face(solid: u64, side: u64, face: u64) -> u64
     requires { ⌜ Known solid × (side < 3) × (face < faces (solidOf solid)) ⌝ }
     ensures { λ r. ⌜ r ≡ nextFace (solidOf solid) (sideOf side) face ⌝ }
 {
-    // Before this solid's faces stand those of the solids before it: 0, 4 or 12.
-    let place = (2 << solid) - 4 + face;
-    wide(NEXT[side as usize][(place / 4) as usize][(place % 4) as usize])
+    match solid {
+        1 => Tetrahedron::next_face(side as usize, face as usize),
+        2 => Octahedron::next_face(side as usize, face as usize),
+        _ => Icosahedron::next_face(side as usize, face as usize),
+    }
 }
 
 // Whether the seam across a side of a face is mirrored: that goes by the side, but for the belt of the icosahedron. `&` and `|`

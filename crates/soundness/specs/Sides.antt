@@ -1,6 +1,7 @@
 -- What a side of a leaf meets, and what stands in the way of a change.
 --
 --   MetIs L a s m       == side s of the leaf a meets m: one larger or equal leaf, two smaller ones, or nothing
+--   Only, Two           == the one leaf that a side meets; the two smaller ones
 --   OneOrTwo L a s      == it meets one leaf, equal or larger, or exactly two smaller
 --   BlocksRefine L a b  == b is a larger leaf that a side of a meets
 --   BlocksCoarsen L c b == b is a smaller leaf that a side of one of the four children of c meets

@@ -36,7 +36,8 @@ pub record Covers (S Q : ℕ) (L : List ℕ) : Type 0 where
   pub only : (x : ℕ) → Leaf L x → InFaces Q (place x)
 
 -- A stretch of a side is made of sides of finest cells. So a stretch is shared where a finest cell in a and a finest cell
--- outside a, in b, are neighbours by the corner rule.
+-- outside a, in b, are neighbours by the corner rule. Where a finest cell is left over its side s into another cell than a, that
+-- side lies on side s of a: cells along a side have a's own way up (`within` and `edge` of steps/specs/Edges).
 pub record Meets (a s b : ℕ) : Type 0 where
   pub finest : ℕ
   pub beyond : ℕ

@@ -1,69 +1,55 @@
--- The rows in the code are those of the definition, the solids one after the other.
+-- Each arm has the solid that it names, and so a face of that solid.
 -- Assumes nothing.
-use mathlib.Core.List.{[]}
-use mathlib.Core.Path.{_≡_, _∙_, ap}
-use Prim.Native.Nat.{ℕ, _+_, _-_, _*_, _%_, _^_, _<_}
+use mathlib.Core.Path.{_≡_}
+use Prim.Native.Nat.{_<_}
 use native.Mathlib.Omega.{arith}
-use lib.ListN.{getD}
-use borrow.Author.Needs.{needs}
-use Rattle.solids.specs.Solids.{solidOf, nextRow}
-use Rattle.solids.proofs.Rows.{bySide, allNext, inFours, before, before-told, in-row, next-read}
+use Rattle.solids.specs.Solids.{solidOf, faces}
 use Rattle.solids.proofs.next_face.Statement.{statement}
 use Rattle.solids.proofs.next_face.Tie as tie
 
--- the place in the row
-placed : (c : tie.Start) → (2 * 2 ^ c .args .solid) % 2 ^ 64 - 4 + c .args .face ≡ before (solidOf (c .args .solid)) + c .args .face
-placed c = omega (arith, before-told (c .args .solid) (c .pre .0))
+next-face-requires : tie.Need-next-face-requires
+next-face-requires c κs =
+    let a = c .before .args in
+    let e : a .solid ≡ 1 = omega arith in
+    let h : a .face < faces (solidOf 1) = rw e at (c .before .pre .2) in
+    (omega arith, omega arith)
 
-few : (c : tie.Start) → (2 * 2 ^ c .args .solid) % 2 ^ 64 - 4 + c .args .face < 32
-few c = rw (placed c) (in-row (solidOf (c .args .solid)) (c .args .face) (c .pre .2))
+next-face-requires-2 : tie.Need-next-face-requires-2
+next-face-requires-2 c κs =
+    let a = c .before .args in
+    let e : a .solid ≡ 2 = omega arith in
+    let h : a .face < faces (solidOf 2) = rw e at (c .before .pre .2) in
+    (omega arith, omega arith)
 
-shl-place : tie.Need-shl-place
-shl-place c = search needs
-
-sub-place : tie.Need-sub-place
-sub-place c = omega (arith, before-told (c .args .solid) (c .pre .0))
-
-add-place : tie.Need-add-place
-add-place c = omega (arith, few c)
-
-mul-wide : tie.Need-mul-wide
-mul-wide c = search needs
-
-mul-wide-2 : tie.Need-mul-wide-2
-mul-wide-2 c = omega (arith, few c)
-
-index-1-wide : tie.Need-index-1-wide
-index-1-wide c = search needs
-
-index-2-wide : tie.Need-index-2-wide
-index-2-wide c = omega (arith, few c)
-
-index-3-wide : tie.Need-index-3-wide
-index-3-wide c = search needs
-
-wide-requires : tie.Need-wide-requires
-wide-requires c κs = search needs
+next-face-requires-3 : tie.Need-next-face-requires-3
+next-face-requires-3 c κs =
+    let a = c .before .args in
+    let e : a .solid ≡ 3 = omega arith in
+    let h : a .face < faces (solidOf 3) = rw e at (c .before .pre .2) in
+    (omega arith, omega arith)
 
 returns : tie.Need-returns
-unfolding nextRow
 returns c =
-    let b = c .before .before in
-    let a = b .args in
-    c .wide .ensures ∙ ap (λ (k : ℕ). inFours (getD (bySide allNext) (a .side) []) k) (placed b)
-    ∙ next-read (solidOf (a .solid)) (a .side) (a .face) (b .pre .1) (b .pre .2)
+    let e : c .before .before .args .solid ≡ 1 = omega arith in
+    rw e (c .next-face .ensures)
+
+returns-2 : tie.Need-returns-2
+returns-2 c =
+    let e : c .before .before .args .solid ≡ 2 = omega arith in
+    rw e (c .next-face2 .ensures)
+
+returns-3 : tie.Need-returns-3
+returns-3 c =
+    let e : c .before .before .args .solid ≡ 3 = omega arith in
+    rw e (c .next-face3 .ensures)
 
 pub next-face-spec : {M : Type 1} → statement M
 next-face-spec =
     tie.close
     (tie.spec
-    shl-place
-    sub-place
-    add-place
-    mul-wide
-    mul-wide-2
-    index-1-wide
-    index-2-wide
-    index-3-wide
-    wide-requires
-    returns)
+    next-face-requires
+    next-face-requires-2
+    next-face-requires-3
+    returns
+    returns-2
+    returns-3)

@@ -1,8 +1,8 @@
 -- By the test.
 -- Assumes nothing.
 use borrow.Author.Tests.{lt-ltb, le-ltb}
-use Rattle.listing.proofs.places.Statement.{statement}
-use Rattle.listing.proofs.places.Tie as tie
+use Rattle.listing.proofs.width.Statement.{statement}
+use Rattle.listing.proofs.width.Tie as tie
 
 returns : tie.Need-returns
 returns c = simp (lt-ltb _ _ (c .if1 .taken))
@@ -10,5 +10,5 @@ returns c = simp (lt-ltb _ _ (c .if1 .taken))
 returns-2 : tie.Need-returns-2
 returns-2 c = simp (le-ltb _ _ (c .if1 .left))
 
-pub places-spec : {M : Type 1} → statement M
-places-spec = tie.close (tie.spec returns returns-2)
+pub width-spec : {M : Type 1} → statement M
+width-spec = tie.close (tie.spec returns returns-2)
