@@ -23,6 +23,9 @@ use text::Reading;
 // The most bytes that are read as an input.
 const INPUT: usize = 4096;
 
+// As many bytes as any input can print: 26 for each of 8,192 leaves, and no more for the answers than the input has.
+pub const PAGE: usize = 217088;
+
 fn put_unreadable(page: &mut [u8], at: usize) -> usize
     requires { ⌜ at + 11 ≤ length (now page) ⌝ }
     ensures { λ r. ⌜ Put (now (page .entry)) (now (page .exit)) at r unreadable ⌝ }
@@ -90,7 +93,7 @@ fn put_leaves(page: &mut [u8], at: usize, slots: &[u64], n: usize) -> usize
     end
 }
 
-// The list of the mesh in the slots, which is sound.
+// The list of the mesh in the slots. It is sound, so only the last arm is ever taken.
 fn put_list(page: &mut [u8], at: usize, slots: &[u64]) -> usize
     requires { ⌜ (at + 26 * 8192 ≤ length (now page)) × SoundIn (wholeOf (now slots)) (now slots) ⌝ }
     ensures { λ r. ⌜ Printed (LeafLines (leaves (now (slots .entry))) (leaves (now (slots .entry)))) (now (page .entry)) (now (page .exit)) at r ⌝ }
@@ -175,7 +178,7 @@ fn solid_first(input: &[u8]) -> Reading
 }
 
 // Puts in what is printed for an input, and answers where it ends.
-pub fn list(page: &mut [u8; 217088], input: &[u8]) -> usize
+pub fn list(page: &mut [u8; PAGE], input: &[u8]) -> usize
     ensures { λ r. ⌜ Prints (now (input .entry)) (take r (now (page .exit))) ⌝ }
     ensures { λ r. ⌜ r ≤ length (now (page .exit)) ⌝ }
 {
@@ -188,6 +191,7 @@ pub fn list(page: &mut [u8; 217088], input: &[u8]) -> usize
     }
 }
 
+// The same for an input that is not too long and begins with the line of a digit.
 fn list_solid(page: &mut [u8], input: &[u8], solid: u64) -> usize
     requires { ⌜ (217088 ≤ length (now page)) × (length (now input) ≤ 4096) × SolidFirst (now input) solid ⌝ }
     ensures { λ r. ⌜ Prints (now (input .entry)) (take r (now (page .exit))) ⌝ }

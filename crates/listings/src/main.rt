@@ -4,7 +4,7 @@
 use show::text;
 
 fn list(input: &[u8]) {
-    let mut page = [0u8; 217088];
+    let mut page = [0u8; listing::PAGE];
     let end = listing::list(&mut page, input);
     text(&page[..end]);
     text(b"--\n");

@@ -7,7 +7,7 @@ fn main() {
     // one byte more than may be read: a longer input is told by it
     let mut input = [0u8; 4097];
     let n = io::read_full(STDIN_FILENO, &mut input);
-    let mut page = [0u8; 217088];
+    let mut page = [0u8; listing::PAGE];
     let end = listing::list(&mut page, &input[..n]);
     io::write_all(STDOUT_FILENO, &page[..end]);
 }
