@@ -12,20 +12,20 @@ use Rattle.refusals.specs.Answers.{Tells}
 use Rattle.codes.specs.Places.{place}
 use Rattle.soundness.specs.Regions.{InFaces}
 use Rattle.soundness.specs.Inner.{Present, Below, Fine}
-use Rattle.soundness.proofs.Leaves.{present-at, at-present}
+use Rattle.soundness.proofs.Leaves.{present_at, at_present}
 use Rattle.balance.specs.Tiled.{TiledAround}
-use Rattle.balance.proofs.Tiled.{tiled-covers}
+use Rattle.balance.proofs.Tiled.{tiled_covers}
 
 module _ (L : List ℕ) (c r : ℕ) (k : TiledAround L c) (B : Below L c r) where
-  pub present-tells : r < length L → Tells (eqb (place (get_or L r 0)) (place c)) (Present L c)
-  present-tells l =
+  pub present_tells : r < length L → Tells (eqb (place (get_or L r 0)) (place c)) (Present L c)
+  present_tells l =
       record {
-        yes = λ e. present-at k.tiled.solid k.faces L (tiled-covers k.tiled) c r k.tiled.code B l (eqb-true _ _ e);
-        no = λ e p. eqb-false _ _ e (at-present k.tiled.solid k.faces L (tiled-covers k.tiled) c r k.tiled.code B k.here p).1;
+        yes = λ e. present_at k.tiled.solid k.faces L (tiled_covers k.tiled) c r k.tiled.code B l (eqb-true _ _ e);
+        no = λ e p. eqb-false _ _ e (at_present k.tiled.solid k.faces L (tiled_covers k.tiled) c r k.tiled.code B k.here p).1;
       }
 
-  pub present-none : length L ≤ r → Present L c → ⊥
-  present-none l p = omega (arith, (at-present k.tiled.solid k.faces L (tiled-covers k.tiled) c r k.tiled.code B k.here p).0)
+  pub present_none : length L ≤ r → Present L c → ⊥
+  present_none l p = omega (arith, (at_present k.tiled.solid k.faces L (tiled_covers k.tiled) c r k.tiled.code B k.here p).0)
 
-pub fine-tells : (Q : ℕ) (L : List ℕ) (c : ℕ) {b : Bool} → InFaces Q (place c) → Tells b (Present L c) → Tells b (Fine Q L c)
-fine-tells Q L c i t = record { yes = λ e. inr (t.yes e); no = λ e f. ⊎_elim (λ n. n i) (λ p. t.no e p) f }
+pub fine_tells : (Q : ℕ) (L : List ℕ) (c : ℕ) {b : Bool} → InFaces Q (place c) → Tells b (Present L c) → Tells b (Fine Q L c)
+fine_tells Q L c i t = record { yes = λ e. inr (t.yes e); no = λ e f. ⊎_elim (λ n. n i) (λ p. t.no e p) f }

@@ -7,8 +7,8 @@
 --
 -- Assumes nothing.
 use Rattle.std.specs.Prelude.{List, ℕ}
-use Rattle.codes.specs.Places.{place, CodeOn, parentCode}
-use Rattle.steps.specs.Stepped.{stepCode}
+use Rattle.codes.specs.Places.{place, CodeOn, parent_code}
+use Rattle.steps.specs.Stepped.{step_code}
 use Rattle.soundness.specs.Regions.{InFaces}
 use Rattle.soundness.specs.Inner.{Tiling, Fine, Asked}
 
@@ -27,4 +27,4 @@ pub record TiledAround (L : List ℕ) (c : ℕ) : Type 0 where
   pub here : InFaces faces (place c)
 
 abbrev pub SidesFine : ℕ → List ℕ → ℕ → Type 0
-SidesFine Q L a = (s : ℕ) → Asked s a → Fine Q L (stepCode s (parentCode a))
+SidesFine Q L a = (s : ℕ) → Asked s a → Fine Q L (step_code s (parent_code a))

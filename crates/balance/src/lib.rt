@@ -5,15 +5,15 @@
 ghost use Rattle.std.specs.Prelude.{◌≡◌, ◌+◌, ◌*◌, ◌<◌, ◌≤◌, length, take};
 ghost use Rattle.refusals.specs.Answers.{Tells};
 ghost use Rattle.codes.specs.Codes.{depth};
-ghost use Rattle.codes.specs.Places.{parentCode, lastDigit};
-ghost use Rattle.steps.specs.Stepped.{stepCode};
+ghost use Rattle.codes.specs.Places.{parent_code, last_digit};
+ghost use Rattle.steps.specs.Stepped.{step_code};
 ghost use Rattle.soundness.specs.Inner.{Present, Fine, Rows};
 ghost use Rattle.balance.specs.Tiled.{Tiled, TiledFor, TiledAround, SidesFine};
 
 // The last two digits of a code, side by side.
 fn last_two(code: u64) -> u64
     requires { (0 < depth code) × (depth code ≤ 26) }
-    ensures { result ≡ lastDigit (parentCode code) * 4 + lastDigit code }
+    ensures { result ≡ last_digit (parent_code code) * 4 + last_digit code }
 {
     code >> (57 - 2 * codes::depth_of(code)) & 15
 }
@@ -45,7 +45,7 @@ fn is_fine(slots: &[u64], n: usize, faces: u64, at: usize, code: u64) -> bool
 // Whether the cell across a side of a leaf's parent is fine.
 fn side_fine(slots: &[u64], n: usize, faces: u64, at: usize, leaf: u64, side: u64) -> bool
     requires { (n ≤ length slots.now) × TiledFor faces (take n slots.now) leaf × (0 < depth leaf) × (side < 3) }
-    ensures { Tells result (Fine faces (take n slots.now) (stepCode side (parentCode leaf))) }
+    ensures { Tells result (Fine faces (take n slots.now) (step_code side (parent_code leaf))) }
 {
     let parent = codes::parent_of(leaf);
     is_fine(slots, n, faces, at, steps::step_of(parent, side))
@@ -72,7 +72,7 @@ fn sides_fine(slots: &[u64], n: usize, faces: u64, at: usize, leaf: u64) -> bool
 // Whether the first `n` slots, which tile the faces, pass the level test.
 pub fn balanced(slots: &[u64], n: usize, faces: u64) -> bool
     requires { (n ≤ length slots.now) × Tiled faces (take n slots.now) }
-    ensures { Tells result (Rows faces stepCode (take n slots.now)) }
+    ensures { Tells result (Rows faces step_code (take n slots.now)) }
 {
     let mut i = 0;
     while i < n {

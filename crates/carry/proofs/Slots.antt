@@ -2,7 +2,7 @@
 -- of the walk and whether the walk reaches it, so each word of the step is a function of the place. And the law of carries.
 --
 --   Slot          == a place: pad s, after the last digit; at s d c, with the digit d, which the walk reaches (c) or not
---   sideAt k      == the direction that the place k knows
+--   side_at k     == the direction that the place k knows
 --   places s c ds == the places of the digits ds; c tells whether the walk reaches the last of them
 --   slots s z ds  == z places after the last digit, and those of ds, of which the walk reaches the last
 --   bit c         == 1 if c holds, else 0
@@ -19,9 +19,9 @@ pub data Slot : Type 0 where
   pad : Side → Slot
   at : Side → Digit → Bool → Slot
 
-abbrev pub sideAt : Slot → Side
-sideAt (pad s) = s
-sideAt (at s d c) = s
+abbrev pub side_at : Slot → Side
+side_at (pad s) = s
+side_at (at s d c) = s
 
 unfoldable pub places : Side → Bool → List Digit → List Slot
 places s c [] = []
@@ -31,14 +31,14 @@ unfoldable pub slots : Side → ℕ → List Digit → List Slot
 slots s zero ds = places s true ds
 slots s (suc z) ds = pad s ∷ slots s z ds
 
-places-length : (s : Side) (c : Bool) (ds : List Digit) → length (places s c ds) ≡ length ds
+places_length : (s : Side) (c : Bool) (ds : List Digit) → length (places s c ds) ≡ length ds
 unfolding places
-places-length s c [] = refl
-places-length s c (d ∷ ds) = ap suc (places-length s (c && not (stops s d)) ds)
+places_length s c [] = refl
+places_length s c (d ∷ ds) = ap suc (places_length s (c && not (stops s d)) ds)
 
 pub slots_length : (s : Side) (z : ℕ) (ds : List Digit) → length (slots s z ds) ≡ z + length ds
 unfolding slots
-slots_length s zero ds = omega (arith, places-length s true ds)
+slots_length s zero ds = omega (arith, places_length s true ds)
 slots_length s (suc z) ds = omega (arith, slots_length s z ds)
 
 abbrev pub bit : Bool → ℕ
@@ -83,14 +83,14 @@ module _ (s : Side) (f g : Slot → ℕ) (e : (k : Slot) → f k + into k ≡ ou
 
 -- what the direction settles stands at every place
 module _ (f : Side → ℕ) (s : Side) where
-  mask-along : (c : Bool) (ds : List Digit) → word (λ k. f (sideAt k)) (places s c ds) ≡ rep (f s) (length ds)
+  mask_along : (c : Bool) (ds : List Digit) → word (λ k. f (side_at k)) (places s c ds) ≡ rep (f s) (length ds)
   unfolding word places
-  mask-along c [] = refl
-  mask-along c (d ∷ ds) = ap (λ (m : ℕ). m * 4 + f s) (mask-along (c && not (stops s d)) ds)
+  mask_along c [] = refl
+  mask_along c (d ∷ ds) = ap (λ (m : ℕ). m * 4 + f s) (mask_along (c && not (stops s d)) ds)
 
-  pub mask_word : (z : ℕ) (ds : List Digit) → word (λ k. f (sideAt k)) (slots s z ds) ≡ rep (f s) (z + length ds)
+  pub mask_word : (z : ℕ) (ds : List Digit) → word (λ k. f (side_at k)) (slots s z ds) ≡ rep (f s) (z + length ds)
   unfolding word slots
-  mask_word zero ds = let n : length ds ≡ 0 + length ds = omega arith in mask-along true ds ∙ ap (rep (f s)) n
+  mask_word zero ds = let n : length ds ≡ 0 + length ds = omega arith in mask_along true ds ∙ ap (rep (f s)) n
   mask_word (suc z) ds =
       let n : suc z + length ds ≡ suc (z + length ds) = omega arith in
       rw n (ap (λ (m : ℕ). m * 4 + f s) (mask_word z ds))

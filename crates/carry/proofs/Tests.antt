@@ -28,11 +28,11 @@ at_side q t vertical = second (q right) (q vertical) (second (q left) (q right &
 abbrev digits : (Digit → Bool) → Bool
 digits q = (q d00 && q d01) && (q d10 && q d11)
 
-at-digit : (q : Digit → Bool) → T (digits q) → (d : Digit) → T (q d)
-at-digit q t d00 = first (q d00) (q d01) (first (q d00 && q d01) (q d10 && q d11) t)
-at-digit q t d01 = second (q d00) (q d01) (first (q d00 && q d01) (q d10 && q d11) t)
-at-digit q t d10 = first (q d10) (q d11) (second (q d00 && q d01) (q d10 && q d11) t)
-at-digit q t d11 = second (q d10) (q d11) (second (q d00 && q d01) (q d10 && q d11) t)
+at_digit : (q : Digit → Bool) → T (digits q) → (d : Digit) → T (q d)
+at_digit q t d00 = first (q d00) (q d01) (first (q d00 && q d01) (q d10 && q d11) t)
+at_digit q t d01 = second (q d00) (q d01) (first (q d00 && q d01) (q d10 && q d11) t)
+at_digit q t d10 = first (q d10) (q d11) (second (q d00 && q d01) (q d10 && q d11) t)
+at_digit q t d11 = second (q d10) (q d11) (second (q d00 && q d01) (q d10 && q d11) t)
 
 module _ (p : Slot → Bool) where
   abbrev both : Side → Digit → Bool
@@ -46,7 +46,7 @@ module _ (p : Slot → Bool) where
 
   pub each : T every → (k : Slot) → T (p k)
   each t (pad s) = first (p (pad s)) (digits (both s)) (at_side towards t s)
-  each t (at s d c) = flag c (at-digit (both s) (second (p (pad s)) (digits (both s)) (at_side towards t s)) d)
+  each t (at s d c) = flag c (at_digit (both s) (second (p (pad s)) (digits (both s)) (at_side towards t s)) d)
     where
       flag : (c : Bool) → T (both s d) → T (p (at s d c))
       flag true h = first (p (at s d true)) (p (at s d false)) h

@@ -9,19 +9,19 @@ use lib.Arith.{digits_div}
 use lib.Bits.{bit_or, or_shifted}
 use lib.ListN.{length}
 use lib.Pow.{shl_exact}
-use Rattle.solids.specs.Solids.{solidNo}
+use Rattle.solids.specs.Solids.{solid_no}
 use Rattle.geometry.specs.Corners.{Digit}
-use Rattle.geometry.specs.Paths.{digitNo, digitOf, number}
+use Rattle.geometry.specs.Paths.{digit_no, digit_of, number}
 use Rattle.geometry.specs.Cells.{Cell, cell, depth_of, parent, child}
 use Rattle.geometry.proofs.Paths.{digit<4, no_digit}
 use Rattle.codes.specs.Codes.{depth, size, Code, cell_of, code_of}
-use Rattle.codes.proofs.Sizes.{size-pos, size-full, size-suc, place-two}
-use Rattle.codes.proofs.Codes.{code-small, code-formed, code-cell, cell-formed, cell-depth}
+use Rattle.codes.proofs.Sizes.{size_pos, size_full, size_suc, place_two}
+use Rattle.codes.proofs.Codes.{code_small, code_formed, code_cell, cell_formed, cell_depth}
 
 -- a child's code
-pub child-code : (c : Cell) (q : Digit) → depth_of c < 26 → code_of (child c q) ≡ code_of c + digitNo q * (32 * size (suc (depth_of c))) + 1
+pub child_code_lem : (c : Cell) (q : Digit) → depth_of c < 26 → code_of (child c q) ≡ code_of c + digit_no q * (32 * size (suc (depth_of c))) + 1
 unfolding code_of number
-child-code c q h = omega (arith, ap (λ (m : ℕ). number c.path * m) (size-suc (depth_of c) h))
+child_code_lem c q h = omega (arith, ap (λ (m : ℕ). number c.path * m) (size_suc (depth_of c) h))
 
 -- the last digit and the depth cut off, in plain numbers
 cut : (g v q s t p n : ℕ) → s ≡ t * 4 → p * s ≡ 2 ^ 52 → 0 < t → q < 4 → n < 26 →
@@ -35,14 +35,14 @@ cut g v q s t p n e f h i j =
     ap (λ (m : ℕ). m / (32 * s) * (32 * s)) a ∙ ap (λ (m : ℕ). m * (32 * s)) (digits_div (g * p + v) b)
     ∙ omega (arith, ap (λ (m : ℕ). g * m) f)
 
-child-cut : (c : Cell) (q : Digit) → depth_of c < 26 →
+child_cut : (c : Cell) (q : Digit) → depth_of c < 26 →
     code_of (child c q) / (32 * size (depth_of c)) * (32 * size (depth_of c)) + depth_of c ≡ code_of c
 unfolding code_of number
-child-cut c q h =
+child_cut c q h =
     let n : ℕ = depth_of c in
-    let s : ℕ = solidNo c.solid in
+    let s : ℕ = solid_no c.solid in
     let e : s * 2 ^ 62 + c.face * 2 ^ 57 ≡ (s * 32 + c.face) * 2 ^ 57 = omega arith in
-    let d = cut (s * 32 + c.face) (number c.path) (digitNo q) (size n) (size (suc n)) (4 ^ n) n (size-suc n h) (size-full n (omega arith)) (size-pos (suc n)) (digit<4 q) h in
+    let d = cut (s * 32 + c.face) (number c.path) (digit_no q) (size n) (size (suc n)) (4 ^ n) n (size_suc n h) (size_full n (omega arith)) (size_pos (suc n)) (digit<4 q) h in
     rw e (omega (arith, d))
 
 -- a cell below a face is the child of its parent by its last digit
@@ -66,35 +66,35 @@ cell_cut c h k =
     let n : depth_of c ≡ suc (depth_of (parent c)) = ap depth_of b.is in
     let j : depth_of c - 1 ≡ depth_of (parent c) = omega arith in
     rw j (ap (λ (x : Cell). code_of x / (32 * size (depth_of (parent c))) * (32 * size (depth_of (parent c))) + depth_of (parent c)) b.is
-    ∙ child-cut (parent c) b.digit (omega arith))
+    ∙ child_cut (parent c) b.digit (omega arith))
 
-pub parent-code : (x : ℕ) → Code x → 0 < depth x →
+pub parent_code_lem : (x : ℕ) → Code x → 0 < depth x →
     x / (32 * size (depth x - 1)) * (32 * size (depth x - 1)) + (depth x - 1) ≡ code_of (parent (cell_of x))
-parent-code x c h = rw (code-cell x c, cell-depth x) at (cell_cut (cell_of x) (rw (cell-depth x) c.deep) (rw (cell-depth x) h))
+parent_code_lem x c h = rw (code_cell x c, cell_depth x) at (cell_cut (cell_of x) (rw (cell_depth x) c.deep) (rw (cell_depth x) h))
 
 -- by shifts: the last digit and the depth go out, the parent's depth comes in
-pub parent-bits : (x d : ℕ) → Code x → d ≡ depth x → 0 < d →
+pub parent_bits : (x d : ℕ) → Code x → d ≡ depth x → 0 < d →
     bit_or ((x / 2 ^ (59 - 2 * d) * 2 ^ (59 - 2 * d)) % 2 ^ 64) (d - 1) ≡ code_of (parent (cell_of x))
-parent-bits x d c e h =
+parent_bits x d c e h =
     let k : ℕ = 59 - 2 * d in
     let u : d ≤ 26 = omega (arith, c.deep) in
-    let p : 2 ^ k ≡ 32 * size (d - 1) = place-two (d - 1) k (omega arith) (omega arith) in
-    let l : x / 2 ^ k * 2 ^ k < 2 ^ 64 = omega (arith, div-mul-le_self x (2 ^ k), code-small x c) in
-    let s : d - 1 < 2 ^ k = omega (arith, size-pos (d - 1)) in
+    let p : 2 ^ k ≡ 32 * size (d - 1) = place_two (d - 1) k (omega arith) (omega arith) in
+    let l : x / 2 ^ k * 2 ^ k < 2 ^ 64 = omega (arith, div-mul-le_self x (2 ^ k), code_small x c) in
+    let s : d - 1 < 2 ^ k = omega (arith, size_pos (d - 1)) in
     ap (λ (m : ℕ). bit_or m (d - 1)) (mod-eq_of_lt l) ∙ or_shifted (x / 2 ^ k) k (d - 1) s
-    ∙ ap (λ (m : ℕ). x / m * m + (d - 1)) p ∙ rw e (parent-code x c (omega arith))
+    ∙ ap (λ (m : ℕ). x / m * m + (d - 1)) p ∙ rw e (parent_code_lem x c (omega arith))
 
 -- by shifts: the digit is put in its place, the depth is one more, and nothing wraps
-pub child-bits : (x q d : ℕ) → Code x → q < 4 → d ≡ depth x → d < 26 →
-    (x + (q * 2 ^ (55 - 2 * d)) % 2 ^ 64 + 1 ≡ code_of (child (cell_of x) (digitOf q))) × (x + (q * 2 ^ (55 - 2 * d)) % 2 ^ 64 + 1 < 2 ^ 64)
-child-bits x q d c l e h =
+pub child_bits : (x q d : ℕ) → Code x → q < 4 → d ≡ depth x → d < 26 →
+    (x + (q * 2 ^ (55 - 2 * d)) % 2 ^ 64 + 1 ≡ code_of (child (cell_of x) (digit_of q))) × (x + (q * 2 ^ (55 - 2 * d)) % 2 ^ 64 + 1 < 2 ^ 64)
+child_bits x q d c l e h =
     let k : ℕ = 55 - 2 * d in
-    let p : 2 ^ k ≡ 32 * size (suc d) = place-two (suc d) k (omega arith) (omega arith) in
+    let p : 2 ^ k ≡ 32 * size (suc d) = place_two (suc d) k (omega arith) (omega arith) in
     let m : (q * 2 ^ k) % 2 ^ 64 ≡ q * 2 ^ k = shl_exact 2 k 64 l (omega arith) in
-    let n : depth_of (cell_of x) ≡ d = cell-depth x ∙ sym e in
-    let t : code_of (child (cell_of x) (digitOf q)) ≡ code_of (cell_of x) + digitNo (digitOf q) * (32 * size (suc (depth_of (cell_of x)))) + 1 =
-    child-code (cell_of x) (digitOf q) (omega arith) in
-    let v : x + (q * 2 ^ k) % 2 ^ 64 + 1 ≡ code_of (child (cell_of x) (digitOf q)) =
-    ap (λ (a : ℕ). x + a + 1) (m ∙ ap (λ (a : ℕ). q * a) p) ∙ sym (rw (code-cell x c, no_digit q l, n) at t) in
-    let f : Code (code_of (child (cell_of x) (digitOf q))) = code-formed (child (cell_of x) (digitOf q)) (cell-formed x c) (omega arith) in
-    (v, omega (arith, v, code-small (code_of (child (cell_of x) (digitOf q))) f))
+    let n : depth_of (cell_of x) ≡ d = cell_depth x ∙ sym e in
+    let t : code_of (child (cell_of x) (digit_of q)) ≡ code_of (cell_of x) + digit_no (digit_of q) * (32 * size (suc (depth_of (cell_of x)))) + 1 =
+    child_code_lem (cell_of x) (digit_of q) (omega arith) in
+    let v : x + (q * 2 ^ k) % 2 ^ 64 + 1 ≡ code_of (child (cell_of x) (digit_of q)) =
+    ap (λ (a : ℕ). x + a + 1) (m ∙ ap (λ (a : ℕ). q * a) p) ∙ sym (rw (code_cell x c, no_digit q l, n) at t) in
+    let f : Code (code_of (child (cell_of x) (digit_of q))) = code_formed (child (cell_of x) (digit_of q)) (cell_formed x c) (omega arith) in
+    (v, omega (arith, v, code_small (code_of (child (cell_of x) (digit_of q))) f))

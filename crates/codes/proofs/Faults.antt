@@ -6,13 +6,13 @@ use mathlib.Core.Path.{◌≡◌, ap}
 use Prim.Native.Nat.{ℕ, ◌<◌}
 use native.Mathlib.Omega.{arith}
 use Rattle.refusals.specs.Refusals.{Single}
-use Rattle.refusals.proofs.Refusals.{need-single, met}
-use Rattle.codes.specs.Codes.{solid, face, path, depth, Formed, Code, faults, codeFaults}
+use Rattle.refusals.proofs.Refusals.{need_single, met}
+use Rattle.codes.specs.Codes.{solid, face, path, depth, Formed, Code, faults, code_faults}
 
 module _ {A : Type 0} (out : ℕ → A) (s f p d : ℕ) (rest : A → Type 0) where
-  pub faults-single : (Formed s f p d → Single rest) → Single (faults out s f p d rest)
-  faults-single h =
-      need-single (λ a. need-single (λ b. need-single (λ c. need-single (λ e. h (record { known = a; on = b; deep = c; tail = e })))))
+  pub faults_single : (Formed s f p d → Single rest) → Single (faults out s f p d rest)
+  faults_single h =
+      need_single (λ a. need_single (λ b. need_single (λ c. need_single (λ e. h (record { known = a; on = b; deep = c; tail = e })))))
 
   -- nothing is at fault
   pub go_on : {a : A} → Formed s f p d → rest a → faults out s f p d rest a
@@ -44,20 +44,20 @@ formed s f p d h z = (passed (λ k. k) s f p d (λ n. n ≡ 0) (λ k l e. omega 
 
 -- the same for a code
 module _ {A : Type 0} (out : ℕ → A) (x : ℕ) (rest : A → Type 0) where
-  pub code-single : (Code x → Single rest) → Single (codeFaults out x rest)
-  code-single = faults-single out (solid x) (face x) (path x) (depth x) rest
+  pub code_single : (Code x → Single rest) → Single (code_faults out x rest)
+  code_single = faults_single out (solid x) (face x) (path x) (depth x) rest
 
-  pub code-on : {a : A} → Code x → rest a → codeFaults out x rest a
-  code-on = go_on out (solid x) (face x) (path x) (depth x) rest
+  pub code_on : {a : A} → Code x → rest a → code_faults out x rest a
+  code_on = go_on out (solid x) (face x) (path x) (depth x) rest
 
-  pub code-hand-on : {n : ℕ} (rest₀ : ℕ → Type 0) → codeFaults (λ k. k) x rest₀ n → (rest₀ n → rest (out n)) → codeFaults out x rest (out n)
-  code-hand-on = hand_on out (solid x) (face x) (path x) (depth x) rest
+  pub code_hand_on : {n : ℕ} (rest₀ : ℕ → Type 0) → code_faults (λ k. k) x rest₀ n → (rest₀ n → rest (out n)) → code_faults out x rest (out n)
+  code_hand_on = hand_on out (solid x) (face x) (path x) (depth x) rest
 
-  pub code-refused : {n : ℕ} → codeFaults (λ k. k) x (λ n. n ≡ 0) n → (n ≡ 0 → ⊥) → codeFaults out x rest (out n)
-  code-refused = refuses out (solid x) (face x) (path x) (depth x) rest
+  pub code_refused : {n : ℕ} → code_faults (λ k. k) x (λ n. n ≡ 0) n → (n ≡ 0 → ⊥) → code_faults out x rest (out n)
+  code_refused = refuses out (solid x) (face x) (path x) (depth x) rest
 
-  pub code-passed : {a : A} → ((k : ℕ) → 0 < k → a ≡ out k → ⊥) → codeFaults out x rest a → Code x × rest a
-  code-passed = passed out (solid x) (face x) (path x) (depth x) rest
+  pub code_passed : {a : A} → ((k : ℕ) → 0 < k → a ≡ out k → ⊥) → code_faults out x rest a → Code x × rest a
+  code_passed = passed out (solid x) (face x) (path x) (depth x) rest
 
-pub code-is-formed : (x : ℕ) {n : ℕ} → codeFaults (λ k. k) x (λ n. n ≡ 0) n → n ≡ 0 → Code x
-code-is-formed x = formed (solid x) (face x) (path x) (depth x)
+pub code_is_formed : (x : ℕ) {n : ℕ} → code_faults (λ k. k) x (λ n. n ≡ 0) n → n ≡ 0 → Code x
+code_is_formed x = formed (solid x) (face x) (path x) (depth x)

@@ -1,27 +1,27 @@
 -- What the calls on codes answer, for any numbers.
 --
---   Checked x n        == n is the number for the code x: its first fault, or 0
---   Packed s f p d r   == r is the reply for packing a solid, a face, a path and a depth
---   Unpacking          == what unpacking answers: a number and the four fields
---   unpacked, notUnpacked == done with these fields; a refusal: its number and four zeros
---   Unpacked x u       == u is the reply for unpacking the code x
---   ParentOf x r       == r is the reply for the parent of x
---   ChildOf x q r      == r is the reply for the child of x of digit q
---   fields e           == the number and values of each case of the enum Fields
---   SomeChild y x      == x is the child of y of some digit
+--   Checked x n            == n is the number for the code x: its first fault, or 0
+--   Packed s f p d r       == r is the reply for packing a solid, a face, a path and a depth
+--   Unpacking              == what unpacking answers: a number and the four fields
+--   unpacked, not_unpacked == done with these fields; a refusal: its number and four zeros
+--   Unpacked x u           == u is the reply for unpacking the code x
+--   ParentOf x r           == r is the reply for the parent of x
+--   ChildOf x q r          == r is the reply for the child of x of digit q
+--   fields e               == the number and values of each case of the enum Fields
+--   SomeChild y x          == x is the child of y of some digit
 --
 -- Assumes nothing.
 use Rattle.std.specs.Prelude.{◌≡◌, ℕ, ◌<◌, ◌≤◌}
 use Rattle.refusals.specs.Refusals.{DIGIT, DEEP, ROOT, need}
 use Rattle.refusals.specs.Answers.{Reply, done, refused}
-use Rattle.geometry.specs.Paths.{digitOf}
+use Rattle.geometry.specs.Paths.{digit_of}
 use Rattle.geometry.specs.Cells.{parent, child}
-use Rattle.codes.specs.Codes.{solid, face, path, depth, joined, cell_of, code_of, faults, codeFaults}
+use Rattle.codes.specs.Codes.{solid, face, path, depth, joined, cell_of, code_of, faults, code_faults}
 use Rattle.codes.specs.declared.Fields.{Fields}
 use Rattle.codes.specs.declared.Fields.TheVariants.{Of, Refused}
 
 abbrev pub Checked : ℕ → ℕ → Type 0
-Checked x = codeFaults (λ k. k) x (λ n. n ≡ 0)
+Checked x = code_faults (λ k. k) x (λ n. n ≡ 0)
 
 -- "Packing from separate numbers (solid, face, a path of 52 bits with its first digit on top, depth): 1, 2, 3, 4."
 abbrev pub Packed : ℕ → ℕ → ℕ → ℕ → Reply → Type 0
@@ -37,31 +37,31 @@ pub record Unpacking : Type 0 where
 abbrev pub unpacked : ℕ → ℕ → ℕ → ℕ → Unpacking
 unpacked s f p d = record { number = 0; solid = s; face = f; path = p; depth = d }
 
-abbrev pub notUnpacked : ℕ → Unpacking
-notUnpacked k = record { number = k; solid = 0; face = 0; path = 0; depth = 0 }
+abbrev pub not_unpacked : ℕ → Unpacking
+not_unpacked k = record { number = k; solid = 0; face = 0; path = 0; depth = 0 }
 
 abbrev pub fields : Fields → Unpacking
 fields (Of s f p d) = unpacked s f p d
-fields (Refused k) = notUnpacked k
+fields (Refused k) = not_unpacked k
 
 abbrev pub Unpacked : ℕ → Unpacking → Type 0
-Unpacked x = codeFaults notUnpacked x (λ u. u ≡ unpacked (solid x) (face x) (path x) (depth x))
+Unpacked x = code_faults not_unpacked x (λ u. u ≡ unpacked (solid x) (face x) (path x) (depth x))
 
 -- the end of each sequence has a name of its own, for the laws to take
-abbrev pub parentEnd : ℕ → Reply → Type 0
-parentEnd x = need (0 < depth x) (refused ROOT) (λ r. r ≡ done (code_of (parent (cell_of x))))
+abbrev pub parent_end : ℕ → Reply → Type 0
+parent_end x = need (0 < depth x) (refused ROOT) (λ r. r ≡ done (code_of (parent (cell_of x))))
 
 abbrev pub ParentOf : ℕ → Reply → Type 0
-ParentOf x = codeFaults refused x (parentEnd x)
+ParentOf x = code_faults refused x (parent_end x)
 
-abbrev pub childEnd : ℕ → ℕ → Reply → Type 0
-childEnd x q =
+abbrev pub child_end : ℕ → ℕ → Reply → Type 0
+child_end x q =
     need (q ≤ 3) (refused DIGIT)
     (need (depth x < 26) (refused DEEP)
-    (λ r. r ≡ done (code_of (child (cell_of x) (digitOf q)))))
+    (λ r. r ≡ done (code_of (child (cell_of x) (digit_of q)))))
 
 abbrev pub ChildOf : ℕ → ℕ → Reply → Type 0
-ChildOf x q = codeFaults refused x (childEnd x q)
+ChildOf x q = code_faults refused x (child_end x q)
 
 pub record SomeChild (y x : ℕ) : Type 0 where
   pub digit : ℕ

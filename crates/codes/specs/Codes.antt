@@ -5,14 +5,14 @@
 --   size d                           == the place value of the last digit at depth d, in a path of 26 digits
 --   Formed s f p d                   == the fields are those of a cell
 --   Code x                           == x is a well-formed code
---   cell_of x, code_of c               == the cell of a code, the code of a cell
+--   cell_of x, code_of c             == the cell of a code, the code of a cell
 --   Within x y                       == the cell of y is that of x or lies inside it
 --   Descends x y                     == y is another code within x: x is an ancestor of y
---   faults, codeFaults               == refusals 1 to 4, in their sequence, for four fields and for a code
+--   faults, code_faults              == refusals 1 to 4, in their sequence, for four fields and for a code
 --
 -- Assumes nothing.
 use Rattle.std.specs.Prelude.{List, ◌≢◌, ◌≡◌, ℕ, ◌+◌, ◌-◌, ◌*◌, ◌/◌, ◌%◌, ◌^◌, ◌<◌, ◌≤◌, length}
-use Rattle.solids.specs.Solids.{Known, solidNo, solidOf, faces}
+use Rattle.solids.specs.Solids.{Known, solid_no, solid_of, faces}
 use Rattle.refusals.specs.Refusals.{SOLID, FACE, DEPTH, TAIL, need}
 use Rattle.geometry.specs.Corners.{Digit}
 use Rattle.geometry.specs.Paths.{number, digits}
@@ -41,7 +41,7 @@ size d = 4 ^ (26 - d)
 -- "The path bits after the last digit are zero. Depth is 0 to 26."
 pub record Formed (s f p d : ℕ) : Type 0 where
   pub known : Known s
-  pub on : f < faces (solidOf s)
+  pub on : f < faces (solid_of s)
   pub deep : d ≤ 26
   pub tail : (p < 2 ^ 52) × (p % size d ≡ 0)
 
@@ -49,13 +49,13 @@ abbrev pub Code : ℕ → Type 0
 Code x = Formed (solid x) (face x) (path x) (depth x)
 
 unfoldable pub cell_of : ℕ → Cell
-cell_of x = cell (solidOf (solid x)) (face x) (digits (depth x) (path x / size (depth x)))
+cell_of x = cell (solid_of (solid x)) (face x) (digits (depth x) (path x / size (depth x)))
 
-abbrev pub pathOf : List Digit → ℕ
-pathOf ds = number ds * size (length ds)
+abbrev pub path_of : List Digit → ℕ
+path_of ds = number ds * size (length ds)
 
 unfoldable pub code_of : Cell → ℕ
-code_of c = joined (solidNo c.solid) c.face (pathOf c.path) (depth_of c)
+code_of c = joined (solid_no c.solid) c.face (path_of c.path) (depth_of c)
 
 pub record Within (x y : ℕ) : Type 0 where
   pub digits : List Digit
@@ -69,10 +69,10 @@ pub record Descends (x y : ℕ) : Type 0 where
 abbrev pub faults : {A : Type 0} → (ℕ → A) → ℕ → ℕ → ℕ → ℕ → (A → Type 0) → A → Type 0
 faults out s f p d rest =
     need (Known s) (out SOLID)
-    (need (f < faces (solidOf s)) (out FACE)
+    (need (f < faces (solid_of s)) (out FACE)
     (need (d ≤ 26) (out DEPTH)
     (need ((p < 2 ^ 52) × (p % size d ≡ 0)) (out TAIL)
     rest)))
 
-abbrev pub codeFaults : {A : Type 0} → (ℕ → A) → ℕ → (A → Type 0) → A → Type 0
-codeFaults out x rest = faults out (solid x) (face x) (path x) (depth x) rest
+abbrev pub code_faults : {A : Type 0} → (ℕ → A) → ℕ → (A → Type 0) → A → Type 0
+code_faults out x rest = faults out (solid x) (face x) (path x) (depth x) rest

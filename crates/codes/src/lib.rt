@@ -4,11 +4,11 @@ ghost use Rattle.std.specs.Prelude.{◌≡◌, ℕ, ◌+◌, ◌-◌, ◌*◌, �
 ghost use Rattle.solids.specs.Triangles.{Corner};
 ghost use Rattle.refusals.specs.Refusals.{Single};
 ghost use Rattle.refusals.specs.Answers.{done, reply};
-ghost use Rattle.geometry.specs.Corners.{Digit, childCorners};
-ghost use Rattle.geometry.specs.Paths.{digitOf, digitNo};
+ghost use Rattle.geometry.specs.Corners.{Digit, child_corners};
+ghost use Rattle.geometry.specs.Paths.{digit_of, digit_no};
 ghost use Rattle.geometry.specs.Cells.{Cell, WellFormed, depth_of, corner, parent, child};
 ghost use Rattle.codes.specs.Codes.{solid, face, path, depth, joined, faults, Code, cell_of, code_of, Within, Descends};
-ghost use Rattle.codes.specs.Places.{place, past, code_at, CodeOn, childCode, parentCode};
+ghost use Rattle.codes.specs.Places.{place, past, code_at, CodeOn, child_code, parent_code};
 ghost use Rattle.codes.specs.Calls.{Checked, Packed, unpacked, Unpacked, fields, ParentOf, ChildOf, SomeChild};
 
 use refusals::Answer;
@@ -134,7 +134,7 @@ pub fn parent(code: u64) -> Answer
 // The child of a code that has children: the digit put in its place, the depth one more.
 pub fn child_of(code: u64, digit: u64) -> u64
     requires { Code code × (digit ≤ 3) × (depth code < 26) }
-    ensures { result ≡ code_of (child (cell_of code) (digitOf digit)) }
+    ensures { result ≡ code_of (child (cell_of code) (digit_of digit)) }
 {
     code + (digit << (55 - 2 * depth_of(code))) + 1
 }
@@ -189,7 +189,7 @@ pub fn parent_and_child_undo_each_other()
 
 // The corners of every child are those of the table.
 pub fn a_child_has_the_corners_of_the_table()
-    ensures { (x q y : ℕ) → ChildOf x q (done y) → (p : Corner) → corner (cell_of y) p ≡ childCorners (digitOf q) (corner (cell_of x)) p }
+    ensures { (x q y : ℕ) → ChildOf x q (done y) → (p : Corner) → corner (cell_of y) p ≡ child_corners (digit_of q) (corner (cell_of x)) p }
 {}
 
 // Numeric order of codes puts an ancestor before its descendants.
@@ -201,8 +201,8 @@ pub fn an_ancestor_comes_before_its_descendants()
 pub fn places_tell_codes_children_and_parents()
     ensures by_index { (x : ℕ) → Code x → CodeOn (solid x) x }
     ensures by_index_2 { (S x : ℕ) → CodeOn S x → Code x × (solid x ≡ S) }
-    ensures by_index_3 { (x : ℕ) (q : Digit) → Code x → depth x < 26 → code_of (child (cell_of x) q) ≡ childCode x (digitNo q) }
-    ensures by_index_4 { (x : ℕ) → Code x → 0 < depth x → code_of (parent (cell_of x)) ≡ parentCode x }
+    ensures by_index_3 { (x : ℕ) (q : Digit) → Code x → depth x < 26 → code_of (child (cell_of x) q) ≡ child_code x (digit_no q) }
+    ensures by_index_4 { (x : ℕ) → Code x → 0 < depth x → code_of (parent (cell_of x)) ≡ parent_code x }
 {}
 
 // The cells of depth 26 inside a cell are those at the places of its interval.

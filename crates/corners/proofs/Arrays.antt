@@ -19,9 +19,9 @@ three c P t l r lft = l
 three c P t l r rgt = r
 
 -- where it is not the tip and not the left corner, the right one tells
-pub last-corner : {b : Bool} (c : Corners) (x : List ℕ) → (c.tip ≡ x → ⊥) → (c.left ≡ x → ⊥) → Tells b (c.right ≡ x) →
+pub last_corner : {b : Bool} (c : Corners) (x : List ℕ) → (c.tip ≡ x → ⊥) → (c.left ≡ x → ⊥) → Tells b (c.right ≡ x) →
     Tells b (HasCorner (at c) x)
-last-corner {b} c x t l r = record { yes = λ e. record { corner = rgt; is = r.yes e }; no = λ e h. go e h.corner h.is }
+last_corner {b} c x t l r = record { yes = λ e. record { corner = rgt; is = r.yes e }; no = λ e h. go e h.corner h.is }
   where
     go : b ≡ false → (p : Corner) → at c p ≡ x → ⊥
     go e tip i = t i
@@ -30,24 +30,24 @@ last-corner {b} c x t l r = record { yes = λ e. record { corner = rgt; is = r.y
 
 -- where the first end is there, the second tells; where it is not, there is nothing more to ask
 module _ (s : Side) (P Q : Triangle) where
-  pub second-tells : {a b : Bool} → Tells a (HasCorner Q (P (end₀ s))) → a ≡ true → Tells b (HasCorner Q (P (end₁ s))) →
+  pub second_tells : {a b : Bool} → Tells a (HasCorner Q (P (end₀ s))) → a ≡ true → Tells b (HasCorner Q (P (end₁ s))) →
       Tells b (HasSide s P Q)
-  second-tells f i t = record { yes = λ e. record { first = f.yes i; second = t.yes e }; no = λ e h. t.no e h.second }
+  second_tells f i t = record { yes = λ e. record { first = f.yes i; second = t.yes e }; no = λ e h. t.no e h.second }
 
-  pub first-tells : {a : Bool} → Tells a (HasCorner Q (P (end₀ s))) → a ≡ false → Tells a (HasSide s P Q)
-  first-tells f i = record { yes = λ e. absurd (true≢false (sym e ∙ i)); no = λ e h. f.no e h.first }
+  pub first_tells : {a : Bool} → Tells a (HasCorner Q (P (end₀ s))) → a ≡ false → Tells a (HasSide s P Q)
+  first_tells f i = record { yes = λ e. absurd (true≢false (sym e ∙ i)); no = λ e h. f.no e h.first }
 
 module _ (s : Side) (a b : Corners) (c n : Cell) (h : AreCorners a (corner c)) (k : AreCorners b (corner n)) where
-  pub rule-of-arrays : HasSide s (at a) (at b) → Has s c n
-  rule-of-arrays w = record {
+  pub rule_of_arrays : HasSide s (at a) (at b) → Has s c n
+  rule_of_arrays w = record {
     at₀ = w.first.corner;
     at₁ = w.second.corner;
     same₀ = sym (k w.first.corner) ∙ w.first.is ∙ h (end₀ s);
     same₁ = sym (k w.second.corner) ∙ w.second.is ∙ h (end₁ s);
   }
 
-  pub arrays-of-rule : Has s c n → HasSide s (at a) (at b)
-  arrays-of-rule w = record {
+  pub arrays_of_rule : Has s c n → HasSide s (at a) (at b)
+  arrays_of_rule w = record {
     first = record { corner = w.at₀; is = k w.at₀ ∙ w.same₀ ∙ sym (h (end₀ s)) };
     second = record { corner = w.at₁; is = k w.at₁ ∙ w.same₁ ∙ sym (h (end₁ s)) };
   }

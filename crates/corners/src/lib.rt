@@ -3,12 +3,12 @@
 
 ghost use Rattle.std.specs.Prelude.{◌≡◌, ◌+◌, ◌^◌, ◌≤◌, ◌<◌};
 ghost use Rattle.solids.specs.Triangles.{Corner, Side, side_of};
-ghost use Rattle.solids.specs.Solids.{Known, solidOf, faces};
+ghost use Rattle.solids.specs.Solids.{Known, solid_of, faces};
 ghost use Rattle.refusals.specs.Answers.{Tells};
 ghost use Rattle.geometry.specs.Weights.{◌⊕◌, unit, total};
-ghost use Rattle.geometry.specs.Corners.{childCorners};
-ghost use Rattle.geometry.specs.Paths.{digitOf};
-ghost use Rattle.geometry.specs.Cells.{Cell, faceCorners, corner};
+ghost use Rattle.geometry.specs.Corners.{child_corners};
+ghost use Rattle.geometry.specs.Paths.{digit_of};
+ghost use Rattle.geometry.specs.Cells.{Cell, face_corners, corner};
 ghost use Rattle.geometry.specs.Neighbours.{Has};
 ghost use Rattle.codes.specs.Codes.{Code, cell_of};
 ghost use Rattle.corners.specs.Arrays.{at, AreCorners, HasCorner, HasSide};
@@ -34,8 +34,8 @@ fn at_vertex(vertex: u64) -> [u64; 12]
 
 // The corners of a face.
 pub fn of_face(solid: u64, face: u64) -> Corners
-    requires { Known solid × (face < faces (solidOf solid)) }
-    ensures { AreCorners result (faceCorners (solidOf solid) face) }
+    requires { Known solid × (face < faces (solid_of solid)) }
+    ensures { AreCorners result (face_corners (solid_of solid) face) }
 {
     Corners {
         tip: at_vertex(solids::vertex_at(solid, face, 0)),
@@ -62,7 +62,7 @@ fn sum(a: [u64; 12], b: [u64; 12]) -> [u64; 12]
 // what is asked for.
 pub fn child(of: Corners, digit: u64) -> Corners
     requires { (digit ≤ 3) × ((p : Corner) → total (at of p) < 2 ^ 63) }
-    ensures { AreCorners result (childCorners (digitOf digit) (at of)) }
+    ensures { AreCorners result (child_corners (digit_of digit) (at of)) }
 {
     let t = of.tip;
     let l = of.left;

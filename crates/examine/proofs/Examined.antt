@@ -8,18 +8,18 @@ use native.Mathlib.Omega.{arith}
 use lib.ListN.{length, get_or, take}
 use lib.Pow.{pow_mono, pow_pos}
 use lib.Seq.{length-take-le}
-use Rattle.solids.specs.Solids.{Known, solidOf, faces}
-use Rattle.solids.proofs.Numbers.{faces-few}
+use Rattle.solids.specs.Solids.{Known, solid_of, faces}
+use Rattle.solids.proofs.Numbers.{faces_few}
 use Rattle.codes.specs.Codes.{solid}
-use Rattle.steps.specs.Stepped.{stepCode}
-use Rattle.steps.proofs.Laws.{step-laws}
-use Rattle.soundness.specs.Regions.{allFaces, FaceSet}
+use Rattle.steps.specs.Stepped.{step_code}
+use Rattle.steps.proofs.Laws.{step_laws}
+use Rattle.soundness.specs.Regions.{all_faces, FaceSet}
 use Rattle.soundness.specs.Leaves.{leaves}
 use Rattle.soundness.specs.Soundness.{Sound, SoundIn}
 use Rattle.soundness.specs.Inner.{Rows, Passes}
-use Rattle.soundness.proofs.Examine.{passes-sound, sound-passes, sound-at}
-use Rattle.soundness.proofs.Prefixes.{leaves-take}
-use Rattle.soundness.proofs.Fresh.{head-leaf}
+use Rattle.soundness.proofs.Examine.{passes_sound, sound_passes, sound_at}
+use Rattle.soundness.proofs.Prefixes.{leaves_take}
+use Rattle.soundness.proofs.Fresh.{head_leaf}
 use Rattle.slots.specs.Slots.{ZerosFrom}
 use Rattle.tiling.specs.Tiling.{Counts}
 
@@ -29,43 +29,43 @@ module _ (xs : List ℕ) (S Q n : ℕ) (e : S ≡ solid (get_or xs 0 0)) (c : Co
 
   pub untiled : n ≡ 0 → SoundIn Q xs → ⊥
   untiled z s =
-      let p = sound-passes S Q stepCode (step-laws S) xs (own s) in
+      let p = sound_passes S Q step_code (step_laws S) xs (own s) in
       c.none z (length (leaves xs)) p.some p.upto p.tiling
 
   module _ (h : 0 < n) where
-    passes : SoundIn Q xs → Passes stepCode S Q xs n
-    passes s = sound-at S Q stepCode (step-laws S) xs n c.upto (c.some h) (own s)
+    passes : SoundIn Q xs → Passes step_code S Q xs n
+    passes s = sound_at S Q step_code (step_laws S) xs n c.upto (c.some h) (own s)
 
     pub not_zeros : (ZerosFrom xs n → ⊥) → SoundIn Q xs → ⊥
     not_zeros z s = z (passes s).zeros
 
-    pub not-level : (Rows Q stepCode (take n xs) → ⊥) → SoundIn Q xs → ⊥
-    not-level r s = r (passes s).rows
+    pub not_level : (Rows Q step_code (take n xs) → ⊥) → SoundIn Q xs → ⊥
+    not_level r s = r (passes s).rows
 
-    pub seen : FaceSet S Q → length xs ≤ 8192 → ZerosFrom xs n → Rows Q stepCode (take n xs) → SoundIn Q xs × (n ≡ length (leaves xs))
+    pub seen : FaceSet S Q → length xs ≤ 8192 → ZerosFrom xs n → Rows Q step_code (take n xs) → SoundIn Q xs × (n ≡ length (leaves xs))
     seen f l z r =
-        let p : Passes stepCode S Q xs n = record { some = h; upto = c.upto; tiling = c.some h; zeros = z; rows = r } in (
-          subst (λ (k : ℕ). Sound k Q xs) e (passes-sound S Q stepCode (step-laws S) xs n f l p),
-          sym (ap length (leaves-take S Q xs n (c.some h) z) ∙ length-take-le n xs c.upto),
+        let p : Passes step_code S Q xs n = record { some = h; upto = c.upto; tiling = c.some h; zeros = z; rows = r } in (
+          subst (λ (k : ℕ). Sound k Q xs) e (passes_sound S Q step_code (step_laws S) xs n f l p),
+          sym (ap length (leaves_take S Q xs n (c.some h) z) ∙ length-take-le n xs c.upto),
         )
 
 -- a sound slice has a first slot, of a known solid
-pub sound-first : (Q : ℕ) (xs : List ℕ) → SoundIn Q xs → (0 < length xs) × Known (solid (get_or xs 0 0))
-sound-first Q xs s =
+pub sound_first : (Q : ℕ) (xs : List ℕ) → SoundIn Q xs → (0 < length xs) × Known (solid (get_or xs 0 0))
+sound_first Q xs s =
     let m = s.mesh in
-    (omega (arith, (sound-passes (solid (get_or xs 0 0)) Q stepCode (step-laws (solid (get_or xs 0 0))) xs s).upto, m.some), (m.covers.cells (get_or xs 0 0) (head-leaf xs m.some)).known)
+    (omega (arith, (sound_passes (solid (get_or xs 0 0)) Q step_code (step_laws (solid (get_or xs 0 0))) xs s).upto, m.some), (m.covers.cells (get_or xs 0 0) (head_leaf xs m.some)).known)
 
 -- a bit for each face
-module _ (S f : ℕ) (e : f ≡ faces (solidOf S)) where
+module _ (S f : ℕ) (e : f ≡ faces (solid_of S)) where
   pub few : f < 64
-  few = omega (arith, faces-few (solidOf S))
+  few = omega (arith, faces_few (solid_of S))
 
   bits : (1 * 2 ^ f) % 2 ^ 64 ≡ 2 ^ f
   bits = let l : f ≤ 63 = omega (arith, few) in ap (λ (k : ℕ). k % 2 ^ 64) (omega arith) ∙ mod-eq_of_lt (omega (arith, pow_mono l))
 
-  pub mask-some : 1 ≤ (1 * 2 ^ f) % 2 ^ 64
-  mask-some = rw bits (pow_pos f)
+  pub mask_some : 1 ≤ (1 * 2 ^ f) % 2 ^ 64
+  mask_some = rw bits (pow_pos f)
 
-  pub mask-whole : (1 * 2 ^ f) % 2 ^ 64 - 1 ≡ allFaces S
-  unfolding allFaces
-  mask-whole = ap (λ (k : ℕ). k - 1) (bits ∙ ap (λ (k : ℕ). 2 ^ k) e)
+  pub mask_whole : (1 * 2 ^ f) % 2 ^ 64 - 1 ≡ all_faces S
+  unfolding all_faces
+  mask_whole = ap (λ (k : ℕ). k - 1) (bits ∙ ap (λ (k : ℕ). 2 ^ k) e)

@@ -1,23 +1,23 @@
 -- What an examination tells of the slots xs, for a set of faces Q.
 --
---   firstSolid xs   == the number of the solid of the first slot
---   whole_of xs      == all faces of that solid
+--   first_solid xs  == the number of the solid of the first slot
+--   whole_of xs     == all faces of that solid
 --   Examined Q xs e == what each case of the enum Seen says
 --
 -- Assumes nothing.
 use Rattle.std.specs.Prelude.{List, ◌≡◌, ℕ, ◌≤◌, length, get_or}
 use Rattle.codes.specs.Codes.{solid}
-use Rattle.soundness.specs.Regions.{allFaces}
+use Rattle.soundness.specs.Regions.{all_faces}
 use Rattle.soundness.specs.Leaves.{leaves}
 use Rattle.soundness.specs.Soundness.{SoundIn}
 use Rattle.examine.specs.declared.Seen.{Seen}
 use Rattle.examine.specs.declared.Seen.TheVariants.{Long, Unsound, Leaves}
 
-abbrev pub firstSolid : List ℕ → ℕ
-firstSolid xs = solid (get_or xs 0 0)
+abbrev pub first_solid : List ℕ → ℕ
+first_solid xs = solid (get_or xs 0 0)
 
 abbrev pub whole_of : List ℕ → ℕ
-whole_of xs = allFaces (firstSolid xs)
+whole_of xs = all_faces (first_solid xs)
 
 abbrev pub Examined : ℕ → List ℕ → Seen → Type 0
 Examined Q xs Long = length xs ≤ 8192 → ⊥

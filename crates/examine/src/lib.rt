@@ -3,8 +3,8 @@
 
 ghost use Rattle.std.specs.Prelude.{◌≡◌, ◌≤◌, length};
 ghost use Rattle.solids.specs.Solids.{Known};
-ghost use Rattle.soundness.specs.Regions.{allFaces, FaceSet};
-ghost use Rattle.examine.specs.Examined.{firstSolid, whole_of, Examined};
+ghost use Rattle.soundness.specs.Regions.{all_faces, FaceSet};
+ghost use Rattle.examine.specs.Examined.{first_solid, whole_of, Examined};
 
 // What is found: more slots than a mesh may have, no sound mesh, or a sound one of so many leaves.
 #[derive(Drop)]
@@ -20,14 +20,14 @@ pub const SLOTS: usize = 8192;
 // All faces of a solid, a bit for each.
 pub fn all_faces(solid: u64) -> u64
     requires { Known solid }
-    ensures { result ≡ allFaces solid }
+    ensures { result ≡ all_faces solid }
 {
     (1 << solids::faces_of(solid)) - 1
 }
 
 // For the set of faces of the first slot's solid.
 fn examine_faces(slots: &[u64], solid: u64, faces: u64) -> Seen
-    requires { (length slots.now ≤ 8192) × Known solid × (solid ≡ firstSolid slots.now) × FaceSet solid faces }
+    requires { (length slots.now ≤ 8192) × Known solid × (solid ≡ first_solid slots.now) × FaceSet solid faces }
     ensures { Examined faces slots.now result }
 {
     let n = tiling::tile_count(slots, faces, solid);

@@ -14,7 +14,7 @@ use Rattle.geometry.specs.Cells.{Cell, cell, WellFormed, depth_of}
 use Rattle.geometry.specs.Neighbours.{Has, Neighbour}
 use Rattle.geometry.specs.Steps.{step}
 use Rattle.geometry.proofs.Across.{across}
-use Rattle.geometry.proofs.Third.{has-ends, third}
+use Rattle.geometry.proofs.Third.{has_ends, third}
 
 -- "The neighbour over a side is the one other cell of the same solid and depth that has both end corners of that side."
 -- Demand 2, first half: the step gives such a cell.
@@ -22,7 +22,7 @@ pub neighbour : (s : Side) (c : Cell) → WellFormed c → Neighbour s c (step s
 neighbour s c h =
     let a = across s c h in
     record {
-      wellFormed = a.wellFormed;
+      well_formed = a.well_formed;
       solid = a.solid;
       depth = a.depth;
       other = a.other;
@@ -36,7 +36,7 @@ only_here : (s : Side) (c : Cell) → WellFormed c → (g : ℕ) (es : List Digi
 unfolding step
 only_here s c h g es k e w =
     let n : Neighbour s c (step s c) = neighbour s c h in
-    third s c h (has-ends s c h (step s c).face (step s c).path n.wellFormed n.has) (has-ends s c h g es k w)
+    third s c h (has_ends s c h (step s c).face (step s c).path n.well_formed n.has) (has_ends s c h g es k w)
     (sym n.depth) (sym e) n.other
 
 -- a cell that has both end corners is the cell itself or its neighbour
@@ -48,8 +48,8 @@ only s c n h k e d w =
     (λ k w. only_here s c h n.face n.path k d w) k w
 
 -- Demand 2, second half: "the one".
-pub one-neighbour : (s : Side) (c n : Cell) → WellFormed c → Neighbour s c n → n ≡ step s c
-one-neighbour s c n h w = go (only s c n h w.wellFormed w.solid w.depth w.has)
+pub one_neighbour : (s : Side) (c n : Cell) → WellFormed c → Neighbour s c n → n ≡ step s c
+one_neighbour s c n h w = go (only s c n h w.well_formed w.solid w.depth w.has)
   where
     go : (n ≡ c) ⊎ (n ≡ step s c) → n ≡ step s c
     go (inl e) = absurd (w.other e)

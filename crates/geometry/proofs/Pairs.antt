@@ -17,9 +17,9 @@ use Rattle.solids.specs.Solids.{Solid, vertex}
 use Rattle.geometry.specs.Weights.{δ}
 use Rattle.geometry.specs.Corners.{Digit, upright}
 use Rattle.geometry.specs.Cells.{cell, WellFormed, corner}
-use Rattle.geometry.proofs.Weights.{δ-same, δ-eq}
-use Rattle.geometry.proofs.Faces.{vertex-apart, on, δ≤on, one-face}
-use Rattle.geometry.proofs.CornerWeights.{facing, facing-one, base_at, on-its-face, up-weight, down-weight, path-of-bases}
+use Rattle.geometry.proofs.Weights.{δ_same, δ_eq}
+use Rattle.geometry.proofs.Faces.{vertex_apart, on, δ≤on, one_face}
+use Rattle.geometry.proofs.CornerWeights.{facing, facing_one, base_at, on_its_face, up_weight, down_weight, path_of_bases}
 
 pub record Both (so : Solid) (A B : List ℕ) (f : ℕ) (ds : List Digit) : Type 0 where
   pub low : WellFormed (cell so f ds)
@@ -35,83 +35,83 @@ swap x = record { low = x.low; p = x.q; q = x.p; apart = λ e. x.apart (sym e); 
 -- what the first of the two corners weighs (the second: swap)
 module _ {so : Solid} {A B : List ℕ} {f : ℕ} {ds : List Digit} (x : Both so A B f ds) where
   up : upright ds ≡ true → (v : ℕ) → get_or A v 0 ≡ base_at (cell so f ds) v + δ (vertex so f x.p) v
-  up u v = rw (← x.is_a) (up-weight (cell so f ds) x.low u x.p v)
+  up u v = rw (← x.is_a) (up_weight (cell so f ds) x.low u x.p v)
 
   down : upright ds ≡ false → (v : ℕ) → get_or A v 0 + δ (vertex so f (facing x.p)) v ≡ base_at (cell so f ds) v + on so f v
-  down u v = rw (← x.is_a) (down-weight (cell so f ds) x.low u x.p v)
+  down u v = rw (← x.is_a) (down_weight (cell so f ds) x.low u x.p v)
 
-  p-not-q : δ (vertex so f x.q) (vertex so f x.p) ≡ 0
-  p-not-q = vertex-apart so f x.low x.q x.p (λ e. x.apart (sym e))
+  p_not_q : δ (vertex so f x.q) (vertex so f x.p) ≡ 0
+  p_not_q = vertex_apart so f x.low x.q x.p (λ e. x.apart (sym e))
 
-  facing-p-not-q : δ (vertex so f (facing x.q)) (vertex so f (facing x.p)) ≡ 0
-  facing-p-not-q =
-      vertex-apart so f x.low (facing x.q) (facing x.p) (λ e. x.apart (sym (facing-one x.q x.p e)))
+  facing_p_not_q : δ (vertex so f (facing x.q)) (vertex so f (facing x.p)) ≡ 0
+  facing_p_not_q =
+      vertex_apart so f x.low (facing x.q) (facing x.p) (λ e. x.apart (sym (facing_one x.q x.p e)))
 
 module _ {so : Solid} {A B : List ℕ} {f g : ℕ} {ds es : List Digit} (x : Both so A B f ds) (y : Both so A B g es) where
   -- both upright: the vertex of A is the same on both faces (look at that vertex), and the bases are the same
-  pub ups-vertex : upright ds ≡ true → upright es ≡ true → vertex so g y.p ≡ vertex so f x.p
-  ups-vertex u w =
+  pub ups_vertex : upright ds ≡ true → upright es ≡ true → vertex so g y.p ≡ vertex so f x.p
+  ups_vertex u w =
       let a : ℕ = vertex so f x.p in
-      δ-eq (vertex so g y.p) a
-      (omega (arith, up x u a, up (swap x) u a, up y w a, up (swap y) w a, δ-same a, p-not-q x))
+      δ_eq (vertex so g y.p) a
+      (omega (arith, up x u a, up (swap x) u a, up y w a, up (swap y) w a, δ_same a, p_not_q x))
 
-  ups-base : upright ds ≡ true → upright es ≡ true → (v : ℕ) → base_at (cell so f ds) v ≡ base_at (cell so g es) v
-  ups-base u w v = omega (arith, up x u v, up y w v, ap (λ (n : ℕ). δ n v) (ups-vertex u w))
+  ups_base : upright ds ≡ true → upright es ≡ true → (v : ℕ) → base_at (cell so f ds) v ≡ base_at (cell so g es) v
+  ups_base u w v = omega (arith, up x u v, up y w v, ap (λ (n : ℕ). δ n v) (ups_vertex u w))
 
   -- both inverted: the same with the vertices that the corners face
-  downs-vertex : upright ds ≡ false → upright es ≡ false → vertex so g (facing y.p) ≡ vertex so f (facing x.p)
-  downs-vertex u w =
+  downs_vertex : upright ds ≡ false → upright es ≡ false → vertex so g (facing y.p) ≡ vertex so f (facing x.p)
+  downs_vertex u w =
       let a : ℕ = vertex so f (facing x.p) in
-      δ-eq (vertex so g (facing y.p)) a
-      (omega (arith, down x u a, down (swap x) u a, down y w a, down (swap y) w a, δ-same a, facing-p-not-q x))
+      δ_eq (vertex so g (facing y.p)) a
+      (omega (arith, down x u a, down (swap x) u a, down y w a, down (swap y) w a, δ_same a, facing_p_not_q x))
 
-  downs-base : upright ds ≡ false → upright es ≡ false → (v : ℕ) →
+  downs_base : upright ds ≡ false → upright es ≡ false → (v : ℕ) →
       base_at (cell so f ds) v + on so f v ≡ base_at (cell so g es) v + on so g v
-  downs-base u w v = omega (arith, down x u v, down y w v, ap (λ (n : ℕ). δ n v) (downs-vertex u w))
+  downs_base u w v = omega (arith, down x u v, down y w v, ap (λ (n : ℕ). δ n v) (downs_vertex u w))
 
   -- the first cell weighs at all three vertices of the second's face, which is therefore its own
-  downs-face : upright ds ≡ false → upright es ≡ false → g ≡ f
-  downs-face u w = one-face so f g x.low y.low has
+  downs_face : upright ds ≡ false → upright es ≡ false → g ≡ f
+  downs_face u w = one_face so f g x.low y.low has
     where
       has : (i : Corner) → 1 ≤ on so f (vertex so g i)
       has i =
           let v : ℕ = vertex so g i in
-          on-its-face (cell so f ds) v (omega (arith, downs-base u w v, δ≤on so g v i, δ-same v))
+          on_its_face (cell so f ds) v (omega (arith, downs_base u w v, δ≤on so g v i, δ_same v))
 
   -- one upright, one inverted: B's corner faces A's vertex, and again the first weighs at all three vertices
-  pub mixed-face : upright ds ≡ true → upright es ≡ false → g ≡ f
-  mixed-face u w = one-face so f g x.low y.low has
+  pub mixed_face : upright ds ≡ true → upright es ≡ false → g ≡ f
+  mixed_face u w = one_face so f g x.low y.low has
     where
       faced : vertex so g (facing y.q) ≡ vertex so f x.p
       faced =
           let a : ℕ = vertex so f x.p in
-          δ-eq (vertex so g (facing y.q)) a
-          (omega (arith, up x u a, up (swap x) u a, down y w a, down (swap y) w a, δ-same a, p-not-q x))
+          δ_eq (vertex so g (facing y.q)) a
+          (omega (arith, up x u a, up (swap x) u a, down y w a, down (swap y) w a, δ_same a, p_not_q x))
 
       has : (i : Corner) → 1 ≤ on so f (vertex so g i)
       has i =
           let v : ℕ = vertex so g i in
-          on-its-face (cell so f ds) v
+          on_its_face (cell so f ds) v
           (omega (
             arith,
             up (swap x) u v,
             down (swap y) w v,
             ap (λ (n : ℕ). δ n v) faced,
             δ≤on so g v i,
-            δ-same v,
+            δ_same v,
             δ≤on so f v x.p,
             δ≤on so f v x.q,
           ))
 
   module _ (n : length ds ≡ length es) where
-    pub ups-cell : upright ds ≡ true → upright es ≡ true → g ≡ f → cell so g es ≡ cell so f ds
-    ups-cell u w e =
+    pub ups_cell : upright ds ≡ true → upright es ≡ true → g ≡ f → cell so g es ≡ cell so f ds
+    ups_cell u w e =
         ap₂ (cell so) e
-        (sym (path-of-bases so f ds es x.low n (rw e at (ups-base u w))))
+        (sym (path_of_bases so f ds es x.low n (rw e at (ups_base u w))))
 
-    pub downs-cell : upright ds ≡ false → upright es ≡ false → cell so g es ≡ cell so f ds
-    downs-cell u w =
-        let e : g ≡ f = downs-face u w in
+    pub downs_cell : upright ds ≡ false → upright es ≡ false → cell so g es ≡ cell so f ds
+    downs_cell u w =
+        let e : g ≡ f = downs_face u w in
         let k : (v : ℕ) → base_at (cell so f ds) v + on so f v ≡ base_at (cell so f es) v + on so f v =
-        rw e at (downs-base u w) in
-        ap₂ (cell so) e (sym (path-of-bases so f ds es x.low n (λ v. omega (arith, k v))))
+        rw e at (downs_base u w) in
+        ap₂ (cell so) e (sym (path_of_bases so f ds es x.low n (λ v. omega (arith, k v))))

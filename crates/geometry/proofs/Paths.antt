@@ -8,21 +8,21 @@ use native.Mathlib.Omega.{arith}
 use lib.ListN.{length}
 use lib.Pow.{pow-add}
 use Rattle.geometry.specs.Corners.{Digit, d00, d01, d10, d11}
-use Rattle.geometry.specs.Paths.{digitNo, digitOf, number, digits}
+use Rattle.geometry.specs.Paths.{digit_no, digit_of, number, digits}
 
-pub digit<4 : (d : Digit) → digitNo d < 4
+pub digit<4 : (d : Digit) → digit_no d < 4
 digit<4 d00 = omega arith
 digit<4 d01 = omega arith
 digit<4 d10 = omega arith
 digit<4 d11 = omega arith
 
-pub digit-no : (d : Digit) → digitOf (digitNo d) ≡ d
-digit-no d00 = refl
-digit-no d01 = refl
-digit-no d10 = refl
-digit-no d11 = refl
+pub digit_no_lem : (d : Digit) → digit_of (digit_no d) ≡ d
+digit_no_lem d00 = refl
+digit_no_lem d01 = refl
+digit_no_lem d10 = refl
+digit_no_lem d11 = refl
 
-pub no_digit : (k : ℕ) → k < 4 → digitNo (digitOf k) ≡ k
+pub no_digit : (k : ℕ) → k < 4 → digit_no (digit_of k) ≡ k
 no_digit zero h = refl
 no_digit (suc zero) h = refl
 no_digit (suc (suc zero)) h = refl
@@ -37,15 +37,15 @@ pub digits_number : (ds : List Digit) → digits (length ds) (number ds) ≡ ds
 unfolding digits number
 digits_number [] = refl
 digits_number (d ∷ ds) =
-    let m : (digitNo d + 4 * number ds) % 4 ≡ digitNo d = omega (arith, digit<4 d) in
-    let q : (digitNo d + 4 * number ds) / 4 ≡ number ds = omega (arith, digit<4 d) in
-    rw (m, q) (ap₂ ◌∷◌ (digit-no d) (digits_number ds))
+    let m : (digit_no d + 4 * number ds) % 4 ≡ digit_no d = omega (arith, digit<4 d) in
+    let q : (digit_no d + 4 * number ds) / 4 ≡ number ds = omega (arith, digit<4 d) in
+    rw (m, q) (ap₂ ◌∷◌ (digit_no_lem d) (digits_number ds))
 
 pub number_digits : (n p : ℕ) → p < 4 ^ n → number (digits n p) ≡ p
 unfolding digits number
 number_digits zero p h = omega arith
 number_digits (suc n) p h =
-    let m : digitNo (digitOf (p % 4)) ≡ p % 4 = no_digit (p % 4) (omega arith) in
+    let m : digit_no (digit_of (p % 4)) ≡ p % 4 = no_digit (p % 4) (omega arith) in
     omega (arith, m, number_digits n (p / 4) (omega arith))
 
 pub number< : (ds : List Digit) → number ds < 4 ^ length ds
@@ -54,8 +54,8 @@ number< [] = omega arith
 number< (d ∷ ds) = omega (arith, digit<4 d, number< ds, pow-suc 4 (length ds))
 
 -- two paths of one length and one number are one
-pub one-path : (xs ys : List Digit) → length xs ≡ length ys → number xs ≡ number ys → xs ≡ ys
-one-path xs ys e f = sym (digits_number xs) ∙ ap₂ digits e f ∙ digits_number ys
+pub one_path : (xs ys : List Digit) → length xs ≡ length ys → number xs ≡ number ys → xs ≡ ys
+one_path xs ys e f = sym (digits_number xs) ∙ ap₂ digits e f ∙ digits_number ys
 
 -- a digit is two bits
 pub four : (n : ℕ) → 4 ^ n ≡ 2 ^ (2 * n)

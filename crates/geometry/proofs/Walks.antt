@@ -6,28 +6,28 @@ use mathlib.Core.Path.{◌≡◌, refl}
 use Prim.Native.Nat.{ℕ, suc, ◌+◌, ◌*◌, ◌/◌, ◌%◌, ◌^◌, ◌<◌}
 use native.Mathlib.Omega.{arith}
 use Rattle.solids.specs.Triangles.{Side}
-use Rattle.geometry.specs.Paths.{digitNo, digitOf, number, digits}
+use Rattle.geometry.specs.Paths.{digit_no, digit_of, number, digits}
 use Rattle.geometry.specs.Steps.{stops, replaced, walked, crosses, mirror}
 use Rattle.geometry.proofs.Paths.{number_digits}
 
 -- the last digit climbs: it is replaced, and the walk goes on with the rest
-pub walk-climbs : (s : Side) (n p : ℕ) → stops s (digitOf (p % 4)) ≡ false →
-    (number (walked s (digits (suc n) p)) ≡ digitNo (replaced s (digitOf (p % 4))) + 4 * number (walked s (digits n (p / 4)))) ×
+pub walk_climbs : (s : Side) (n p : ℕ) → stops s (digit_of (p % 4)) ≡ false →
+    (number (walked s (digits (suc n) p)) ≡ digit_no (replaced s (digit_of (p % 4))) + 4 * number (walked s (digits n (p / 4)))) ×
     (crosses s (digits (suc n) p) ≡ crosses s (digits n (p / 4)))
 unfolding digits number walked crosses
-walk-climbs s n p e = rw e (refl, refl)
+walk_climbs s n p e = rw e (refl, refl)
 
 -- the last digit stops: it is replaced, and the rest is kept
-pub walk-stops : (s : Side) (n p : ℕ) → p < 4 ^ suc n → stops s (digitOf (p % 4)) ≡ true →
-    (number (walked s (digits (suc n) p)) ≡ digitNo (replaced s (digitOf (p % 4))) + 4 * (p / 4)) ×
+pub walk_stops : (s : Side) (n p : ℕ) → p < 4 ^ suc n → stops s (digit_of (p % 4)) ≡ true →
+    (number (walked s (digits (suc n) p)) ≡ digit_no (replaced s (digit_of (p % 4))) + 4 * (p / 4)) ×
     (crosses s (digits (suc n) p) ≡ false)
 unfolding digits number walked crosses
-walk-stops s n p h e =
+walk_stops s n p h e =
     let r : number (digits n (p / 4)) ≡ p / 4 = number_digits n (p / 4) (omega arith) in
     rw e (rw r, refl)
 
 -- over a mirrored seam each digit is mirrored
-pub mirror-turn : (n p : ℕ) →
-    number (map mirror (digits (suc n) p)) ≡ digitNo (mirror (digitOf (p % 4))) + 4 * number (map mirror (digits n (p / 4)))
+pub mirror_turn : (n p : ℕ) →
+    number (map mirror (digits (suc n) p)) ≡ digit_no (mirror (digit_of (p % 4))) + 4 * number (map mirror (digits n (p / 4)))
 unfolding digits number
-mirror-turn n p = refl
+mirror_turn n p = refl

@@ -17,12 +17,12 @@ unfolding ◌⊕◌
 ⊕-comm (x ∷ xs) [] = refl
 ⊕-comm (x ∷ xs) (y ∷ ys) = ap₂ ◌∷◌ (add_comm x y) (⊕-comm xs ys)
 
-pub getD-⊕ : (xs ys : List ℕ) (v : ℕ) → get_or (xs ⊕ ys) v 0 ≡ get_or xs v 0 + get_or ys v 0
+pub get_or-⊕ : (xs ys : List ℕ) (v : ℕ) → get_or (xs ⊕ ys) v 0 ≡ get_or xs v 0 + get_or ys v 0
 unfolding ◌⊕◌
-getD-⊕ [] ys v = sym (zero-add (get_or ys v 0))
-getD-⊕ (x ∷ xs) [] v = sym (add-zero (get_or (x ∷ xs) v 0))
-getD-⊕ (x ∷ xs) (y ∷ ys) zero = refl
-getD-⊕ (x ∷ xs) (y ∷ ys) (suc v) = getD-⊕ xs ys v
+get_or-⊕ [] ys v = sym (zero-add (get_or ys v 0))
+get_or-⊕ (x ∷ xs) [] v = sym (add-zero (get_or (x ∷ xs) v 0))
+get_or-⊕ (x ∷ xs) (y ∷ ys) zero = refl
+get_or-⊕ (x ∷ xs) (y ∷ ys) (suc v) = get_or-⊕ xs ys v
 
 pub length-⊕ : (n : ℕ) (xs ys : List ℕ) → length xs ≡ n → length ys ≡ n → length (xs ⊕ ys) ≡ n
 unfolding ◌⊕◌
@@ -45,25 +45,25 @@ weight≤total (x ∷ xs) (suc v) = omega (arith, weight≤total xs v)
 
 -- a weight of 1 at one place
 
-getD-zeros : (n w : ℕ) → ◌≡◌ {A = ℕ} (get_or (replicate n 0) w 0) 0
-getD-zeros zero w = refl
-getD-zeros (suc n) zero = refl
-getD-zeros (suc n) (suc w) = getD-zeros n w
+get_or-zeros : (n w : ℕ) → ◌≡◌ {A = ℕ} (get_or (replicate n 0) w 0) 0
+get_or-zeros zero w = refl
+get_or-zeros (suc n) zero = refl
+get_or-zeros (suc n) (suc w) = get_or-zeros n w
 
-pub getD-unit : (n v w : ℕ) → v < n → get_or (unit n v) w 0 ≡ δ v w
+pub get_or-unit : (n v w : ℕ) → v < n → get_or (unit n v) w 0 ≡ δ v w
 unfolding unit δ
-getD-unit zero v w h = omega arith
-getD-unit (suc n) zero zero h = refl
-getD-unit (suc n) zero (suc w) h = getD-zeros n w
-getD-unit (suc n) (suc v) zero h = refl
-getD-unit (suc n) (suc v) (suc w) h = getD-unit n v w (omega arith)
+get_or-unit zero v w h = omega arith
+get_or-unit (suc n) zero zero h = refl
+get_or-unit (suc n) zero (suc w) h = get_or-zeros n w
+get_or-unit (suc n) (suc v) zero h = refl
+get_or-unit (suc n) (suc v) (suc w) h = get_or-unit n v w (omega arith)
 
 -- it is put into zeros
-pub unit-set : (n v : ℕ) → v < n → set (replicate n 0) v 1 ≡ unit n v
+pub unit_set : (n v : ℕ) → v < n → set (replicate n 0) v 1 ≡ unit n v
 unfolding unit
-unit-set zero v h = absurd (omega arith)
-unit-set (suc n) zero h = refl
-unit-set (suc n) (suc v) h = ap (λ (xs : List ℕ). 0 ∷ xs) (unit-set n v (omega arith))
+unit_set zero v h = absurd (omega arith)
+unit_set (suc n) zero h = refl
+unit_set (suc n) (suc v) h = ap (λ (xs : List ℕ). 0 ∷ xs) (unit_set n v (omega arith))
 
 pub length-unit : (n v : ℕ) → length (unit n v) ≡ n
 unfolding unit
@@ -71,32 +71,32 @@ length-unit zero v = refl
 length-unit (suc n) zero = ap suc (length-replicate n 0)
 length-unit (suc n) (suc v) = ap suc (length-unit n v)
 
-total-zeros : (n : ℕ) → total (replicate n 0) ≡ 0
+total_zeros : (n : ℕ) → total (replicate n 0) ≡ 0
 unfolding total
-total-zeros zero = refl
-total-zeros (suc n) = omega (arith, total-zeros n)
+total_zeros zero = refl
+total_zeros (suc n) = omega (arith, total_zeros n)
 
-pub total-unit : (n v : ℕ) → v < n → total (unit n v) ≡ 1
+pub total_unit : (n v : ℕ) → v < n → total (unit n v) ≡ 1
 unfolding total unit
-total-unit zero v h = omega arith
-total-unit (suc n) zero h = omega (arith, total-zeros n)
-total-unit (suc n) (suc v) h = omega (arith, total-unit n v (omega arith))
+total_unit zero v h = omega arith
+total_unit (suc n) zero h = omega (arith, total_zeros n)
+total_unit (suc n) (suc v) h = omega (arith, total_unit n v (omega arith))
 
-pub δ-same : (v : ℕ) → δ v v ≡ 1
+pub δ_same : (v : ℕ) → δ v v ≡ 1
 unfolding δ
-δ-same zero = refl
-δ-same (suc v) = δ-same v
+δ_same zero = refl
+δ_same (suc v) = δ_same v
 
-pub δ-other : (v w : ℕ) → (v ≡ w → ⊥) → δ v w ≡ 0
+pub δ_other : (v w : ℕ) → (v ≡ w → ⊥) → δ v w ≡ 0
 unfolding δ
-δ-other zero zero h = absurd (h refl)
-δ-other zero (suc w) h = refl
-δ-other (suc v) zero h = refl
-δ-other (suc v) (suc w) h = δ-other v w (λ e. h (ap suc e))
+δ_other zero zero h = absurd (h refl)
+δ_other zero (suc w) h = refl
+δ_other (suc v) zero h = refl
+δ_other (suc v) (suc w) h = δ_other v w (λ e. h (ap suc e))
 
-pub δ-eq : (v w : ℕ) → 1 ≤ δ v w → v ≡ w
+pub δ_eq : (v w : ℕ) → 1 ≤ δ v w → v ≡ w
 unfolding δ
-δ-eq zero zero h = refl
-δ-eq zero (suc w) h = omega arith
-δ-eq (suc v) zero h = omega arith
-δ-eq (suc v) (suc w) h = ap suc (δ-eq v w h)
+δ_eq zero zero h = refl
+δ_eq zero (suc w) h = omega arith
+δ_eq (suc v) zero h = omega arith
+δ_eq (suc v) (suc w) h = ap suc (δ_eq v w h)

@@ -2,7 +2,7 @@
 --
 --   Cell         == a solid, a face and a path
 --   WellFormed c == its face is on its solid
---   depth_of c    == its depth, the number of its digits
+--   depth_of c   == its depth, the number of its digits
 --   corner c p   == its corner p: twelve weights, one for each vertex that a solid can have
 --   child c d    == its child of digit d
 --   parent c     == the cell that it is a child of; a face is its own
@@ -29,21 +29,21 @@ abbrev pub depth_of : Cell → ℕ
 depth_of c = length c.path
 
 -- "A corner is a list of whole weights over the solid's vertices. A face's corners have weight 1 at one vertex."
-abbrev pub faceCorners : Solid → ℕ → Triangle
-faceCorners so f p = unit 12 (vertex so f p)
+abbrev pub face_corners : Solid → ℕ → Triangle
+face_corners so f p = unit 12 (vertex so f p)
 
 abbrev pub corner : Cell → Triangle
-corner c p = corners (faceCorners c.solid c.face) c.path p
+corner c p = corners (face_corners c.solid c.face) c.path p
 
 abbrev pub child : Cell → Digit → Cell
 child c d = cell c.solid c.face (d ∷ c.path)
 
-abbrev pub parentPath : List Digit → List Digit
-parentPath [] = []
-parentPath (d ∷ ds) = ds
+abbrev pub parent_path : List Digit → List Digit
+parent_path [] = []
+parent_path (d ∷ ds) = ds
 
 abbrev pub parent : Cell → Cell
-parent c = cell c.solid c.face (parentPath c.path)
+parent c = cell c.solid c.face (parent_path c.path)
 
 abbrev pub under : Cell → List Digit → Cell
 under c es = cell c.solid c.face (es ++ c.path)

@@ -2,7 +2,7 @@
 --
 --   Digit             == which child: d00, d01, d10, d11
 --   Triangle          == three corners, each a list of weights
---   childCorners d P  == the corners of child d of the triangle P
+--   child_corners d P == the corners of child d of the triangle P
 --   corners P ds      == the corners of the cell that the path ds leads to from P
 --   upright ds        == that cell has P's own way up, and not the other
 --
@@ -26,31 +26,31 @@ Triangle = Corner → List ℕ
 --   01    | T+L | L+L  | L+R
 --   10    | L+R | T+L  | T+R
 --   11    | T+R | L+R  | R+R
-abbrev pub childCorners : Digit → Triangle → Triangle
-childCorners d00 P tip = P tip ⊕ P tip
-childCorners d00 P lft = P tip ⊕ P lft
-childCorners d00 P rgt = P tip ⊕ P rgt
-childCorners d01 P tip = P tip ⊕ P lft
-childCorners d01 P lft = P lft ⊕ P lft
-childCorners d01 P rgt = P lft ⊕ P rgt
-childCorners d10 P tip = P lft ⊕ P rgt
-childCorners d10 P lft = P tip ⊕ P lft
-childCorners d10 P rgt = P tip ⊕ P rgt
-childCorners d11 P tip = P tip ⊕ P rgt
-childCorners d11 P lft = P lft ⊕ P rgt
-childCorners d11 P rgt = P rgt ⊕ P rgt
+abbrev pub child_corners : Digit → Triangle → Triangle
+child_corners d00 P tip = P tip ⊕ P tip
+child_corners d00 P lft = P tip ⊕ P lft
+child_corners d00 P rgt = P tip ⊕ P rgt
+child_corners d01 P tip = P tip ⊕ P lft
+child_corners d01 P lft = P lft ⊕ P lft
+child_corners d01 P rgt = P lft ⊕ P rgt
+child_corners d10 P tip = P lft ⊕ P rgt
+child_corners d10 P lft = P tip ⊕ P lft
+child_corners d10 P rgt = P tip ⊕ P rgt
+child_corners d11 P tip = P tip ⊕ P rgt
+child_corners d11 P lft = P lft ⊕ P rgt
+child_corners d11 P rgt = P rgt ⊕ P rgt
 
 unfoldable pub corners : Triangle → List Digit → Triangle
 corners P [] p = P p
-corners P (d ∷ ds) p = childCorners d (corners P ds) p
+corners P (d ∷ ds) p = child_corners d (corners P ds) p
 
 -- the child in the middle, 10, is turned over
-abbrev pub turnedBy : Digit → Bool → Bool
-turnedBy d00 up = up
-turnedBy d01 up = up
-turnedBy d10 up = not up
-turnedBy d11 up = up
+abbrev pub turned_by : Digit → Bool → Bool
+turned_by d00 up = up
+turned_by d01 up = up
+turned_by d10 up = not up
+turned_by d11 up = up
 
 unfoldable pub upright : List Digit → Bool
 upright [] = true
-upright (d ∷ ds) = turnedBy d (upright ds)
+upright (d ∷ ds) = turned_by d (upright ds)

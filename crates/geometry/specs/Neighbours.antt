@@ -17,7 +17,7 @@ pub record Has (s : Side) (c n : Cell) : Type 0 where
 
 -- "The neighbour over a side is the one other cell of the same solid and depth that has both end corners of that side."
 pub record Neighbour (s : Side) (c n : Cell) : Type 0 where
-  pub wellFormed : WellFormed n
+  pub well_formed : WellFormed n
   pub solid : n.solid ≡ c.solid
   pub depth : depth_of n ≡ depth_of c
   pub other : n ≢ c

@@ -1,23 +1,23 @@
 -- The step by digits.
 --
---   stops s d        == in direction s the walk ends at the digit d; at another digit it climbs
---   replaced s d     == what the walk puts in the place of d
---   walked s ds      == the path ds with the walk's replacements
---   crosses s ds     == the walk passes the first digit of ds
---   mirror d         == d with 01 made 11 and 11 made 01
---   Way              == how a step goes: inside the face, over a straight seam, over a mirrored seam
---   wayNo w          == the number of a way: 0, 1, 2
---   flips w          == the way w is over a mirrored seam
---   way_of x m        == the way of a walk that crosses (x) or not, at a seam that is mirrored (m) or not
---   way s c          == how the step in direction s goes from the cell c
---   newFace, newPath == the face and the path that a step leads to, by its way
---   moved w s c      == the cell of that face and path
---   step s c         == the cell that the step in direction s leads to from c
+--   stops s d          == in direction s the walk ends at the digit d; at another digit it climbs
+--   replaced s d       == what the walk puts in the place of d
+--   walked s ds        == the path ds with the walk's replacements
+--   crosses s ds       == the walk passes the first digit of ds
+--   mirror d           == d with 01 made 11 and 11 made 01
+--   Way                == how a step goes: inside the face, over a straight seam, over a mirrored seam
+--   way_no w           == the number of a way: 0, 1, 2
+--   flips w            == the way w is over a mirrored seam
+--   way_of x m         == the way of a walk that crosses (x) or not, at a seam that is mirrored (m) or not
+--   way s c            == how the step in direction s goes from the cell c
+--   new_face, new_path == the face and the path that a step leads to, by its way
+--   moved w s c        == the cell of that face and path
+--   step s c           == the cell that the step in direction s leads to from c
 --
 -- Assumes nothing.
 use Rattle.std.specs.Prelude.{Bool, true, false, ◌&&◌, not, cond, List, [], ◌∷◌, map, ℕ}
 use Rattle.solids.specs.Triangles.{Side, left, right, vertical}
-use Rattle.solids.specs.Solids.{Solid, nextFace, mirrored}
+use Rattle.solids.specs.Solids.{Solid, next_face, mirrored}
 use Rattle.geometry.specs.Corners.{Digit, d00, d01, d10, d11}
 use Rattle.geometry.specs.Cells.{Cell, cell}
 
@@ -75,41 +75,41 @@ mirror d11 = d01
 
 -- Document 02, request 3: "inside (0), straight seam (1) or mirrored seam (2), fixed by the tables of document 01".
 pub data Way : Type 0 where
-  inside overStraight overMirrored : Way
+  inside over_straight over_mirrored : Way
 
-abbrev pub wayNo : Way → ℕ
-wayNo inside = 0
-wayNo overStraight = 1
-wayNo overMirrored = 2
+abbrev pub way_no : Way → ℕ
+way_no inside = 0
+way_no over_straight = 1
+way_no over_mirrored = 2
 
 abbrev pub flips : Way → Bool
 flips inside = false
-flips overStraight = false
-flips overMirrored = true
+flips over_straight = false
+flips over_mirrored = true
 
 abbrev pub way_of : Bool → Bool → Way
 way_of false m = inside
-way_of true false = overStraight
-way_of true true = overMirrored
+way_of true false = over_straight
+way_of true true = over_mirrored
 
 unfoldable pub way : Side → Cell → Way
 way s c = way_of (crosses s c.path) (mirrored c.solid s c.face)
 
 -- A walk that crosses a seam "takes the neighbouring face from a table per solid, a row for each direction".
-abbrev pub newFace : Way → Side → Solid → ℕ → ℕ
-newFace inside s so f = f
-newFace overStraight s so f = nextFace so s f
-newFace overMirrored s so f = nextFace so s f
+abbrev pub new_face : Way → Side → Solid → ℕ → ℕ
+new_face inside s so f = f
+new_face over_straight s so f = next_face so s f
+new_face over_mirrored s so f = next_face so s f
 
 -- On a mirrored seam the path is mirrored, "in place of the climbing replacements. [..] All other seams use the climbing
 -- replacements."
-abbrev pub newPath : Way → Side → List Digit → List Digit
-newPath inside s ds = walked s ds
-newPath overStraight s ds = walked s ds
-newPath overMirrored s ds = map mirror ds
+abbrev pub new_path : Way → Side → List Digit → List Digit
+new_path inside s ds = walked s ds
+new_path over_straight s ds = walked s ds
+new_path over_mirrored s ds = map mirror ds
 
 abbrev pub moved : Way → Side → Cell → Cell
-moved w s c = cell c.solid (newFace w s c.solid c.face) (newPath w s c.path)
+moved w s c = cell c.solid (new_face w s c.solid c.face) (new_path w s c.path)
 
 unfoldable pub step : Side → Cell → Cell
 step s c = moved (way s c) s c

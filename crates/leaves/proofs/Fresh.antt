@@ -11,15 +11,15 @@ use lib.Dec.{eqb}
 use lib.ListN.{length, take, set, replicate, length-append, length-set}
 use lib.Seq.{length-take-le, take-suc-set}
 use borrow.Author.Tests.{eq-eqb, ne_eqb, eqb-true, eqb-false}
-use Rattle.solids.specs.Solids.{solidOf, faces}
+use Rattle.solids.specs.Solids.{solid_of, faces}
 use Rattle.codes.specs.Codes.{joined}
 use Rattle.codes.specs.Places.{code_at, base}
 use Rattle.soundness.specs.Leaves.{pad}
-use Rattle.soundness.specs.Changes.{facesFrom, freshLeaves}
-use Rattle.slots.specs.Slots.{clearedFrom}
+use Rattle.soundness.specs.Changes.{faces_from, fresh_leaves}
+use Rattle.slots.specs.Slots.{cleared_from}
 
-abbrev faceCode : ℕ → ℕ → ℕ
-faceCode S f = code_at (base S + f * 2 ^ 52) 0
+abbrev face_code : ℕ → ℕ → ℕ
+face_code S f = code_at (base S + f * 2 ^ 52) 0
 
 -- whether the set has the face
 abbrev bit : ℕ → ℕ → ℕ
@@ -36,25 +36,25 @@ length-face b x R l = go (eqb b 1) refl
 module _ (S Q last : ℕ) where
   -- those from f on, below last
   abbrev pub left : ℕ → List ℕ
-  left f = facesFrom S Q f (last - f)
+  left f = faces_from S Q f (last - f)
 
-  left-more : (f : ℕ) → f < last → left f ≡ cond (eqb (bit Q f) 1) (faceCode S f ∷ []) [] ++ left (f + 1)
-  left-more f h = let e : last - f ≡ suc (last - (f + 1)) = omega arith in ap (facesFrom S Q f) e
+  left_more : (f : ℕ) → f < last → left f ≡ cond (eqb (bit Q f) 1) (face_code S f ∷ []) [] ++ left (f + 1)
+  left_more f h = let e : last - f ≡ suc (last - (f + 1)) = omega arith in ap (faces_from S Q f) e
 
-  left-none : (f : ℕ) → last ≤ f → left f ≡ []
-  left-none f h = let e : last - f ≡ 0 = omega arith in ap (facesFrom S Q f) e
+  left_none : (f : ℕ) → last ≤ f → left f ≡ []
+  left_none f h = let e : last - f ≡ 0 = omega arith in ap (faces_from S Q f) e
 
-  pub left-all : last ≡ faces (solidOf S) → left 0 ≡ freshLeaves S Q
-  left-all h = let e : last - 0 ≡ faces (solidOf S) = omega arith in ap (facesFrom S Q 0) e
+  pub left_all : last ≡ faces (solid_of S) → left 0 ≡ fresh_leaves S Q
+  left_all h = let e : last - 0 ≡ faces (solid_of S) = omega arith in ap (faces_from S Q 0) e
 
   -- counted
 
-  pub count-more : (n f N : ℕ) → f < last → n + length (left f) ≡ N → n + bit Q f + length (left (f + 1)) ≡ N
-  count-more n f N h e =
-      omega (arith, ap length (left-more f h), length-face (bit Q f) (faceCode S f) (left (f + 1)) (mod-lt (Q / 2 ^ f) (omega arith)))
+  pub count_more : (n f N : ℕ) → f < last → n + length (left f) ≡ N → n + bit Q f + length (left (f + 1)) ≡ N
+  count_more n f N h e =
+      omega (arith, ap length (left_more f h), length-face (bit Q f) (face_code S f) (left (f + 1)) (mod-lt (Q / 2 ^ f) (omega arith)))
 
-  pub count-done : (n f N : ℕ) → last ≤ f → n + length (left f) ≡ N → n ≡ N
-  count-done n f N h e = omega (arith, ap length (left-none f h))
+  pub count_done : (n f N : ℕ) → last ≤ f → n + length (left f) ≡ N → n ≡ N
+  count_done n f N h e = omega (arith, ap length (left_none f h))
 
   -- written
 
@@ -66,15 +66,15 @@ module _ (S Q last : ℕ) where
           ap length e,
           length-append (take n xs) (left f),
           length-take-le n xs low,
-          ap length (left-more f h),
-          length-face (bit Q f) (faceCode S f) (left (f + 1)) (omega arith),
+          ap length (left_more f h),
+          length-face (bit Q f) (face_code S f) (left (f + 1)) (omega arith),
         )
 
     -- what one turn leaves: the face is written, or nothing is
-    pub write-more : f < last → bit Q f ≡ 1 → n < length xs → (ys : List ℕ) (k v : ℕ) → ys ≡ set xs n v → k ≡ n + 1 → v ≡ joined S f 0 0 →
+    pub write_more : f < last → bit Q f ≡ 1 → n < length xs → (ys : List ℕ) (k v : ℕ) → ys ≡ set xs n v → k ≡ n + 1 → v ≡ joined S f 0 0 →
         (length ys ≡ length xs) × (k ≤ length ys) × (take k ys ++ left (f + 1) ≡ F)
-    write-more h b r ys k v ey ek ev =
-        let x = faceCode S f in
+    write_more h b r ys k v ey ek ev =
+        let x = face_code S f in
         let same : ys ≡ set xs n x = ey ∙ ap (set xs n) (ev ∙ omega arith) in
         let len : length ys ≡ length xs = ap length same ∙ length-set xs n x in (
           len,
@@ -84,25 +84,25 @@ module _ (S Q last : ℕ) where
               ∙ ap (λ (t : List ℕ). t ++ left (f + 1)) (take-suc-set xs n x r)
               ∙ append_assoc (take n xs) (x ∷ []) (left (f + 1))
               ∙ ap (λ (t : Bool). take n xs ++ (cond t (x ∷ []) [] ++ left (f + 1))) (sym (eq-eqb (bit Q f) 1 b))
-              ∙ ap (λ (t : List ℕ). take n xs ++ t) (sym (left-more f h))
+              ∙ ap (λ (t : List ℕ). take n xs ++ t) (sym (left_more f h))
               ∙ e,
         )
 
-    pub write-none : f < last → (bit Q f ≡ 1 → ⊥) → (ys : List ℕ) (k : ℕ) → ys ≡ xs → k ≡ n →
+    pub write_none : f < last → (bit Q f ≡ 1 → ⊥) → (ys : List ℕ) (k : ℕ) → ys ≡ xs → k ≡ n →
         (length ys ≡ length xs) × (k ≤ length ys) × (take k ys ++ left (f + 1) ≡ F)
-    write-none h b ys k ey ek =
+    write_none h b ys k ey ek =
         let len : length ys ≡ length xs = ap length ey in (
           len,
           omega arith,
           ap (λ (i : ℕ). take i ys ++ left (f + 1)) ek
               ∙ ap (λ (t : List ℕ). take n t ++ left (f + 1)) ey
-              ∙ ap (λ (t : Bool). take n xs ++ (cond t (faceCode S f ∷ []) [] ++ left (f + 1))) (sym (ne_eqb (bit Q f) 1 b))
-              ∙ ap (λ (t : List ℕ). take n xs ++ t) (sym (left-more f h))
+              ∙ ap (λ (t : Bool). take n xs ++ (cond t (face_code S f ∷ []) [] ++ left (f + 1))) (sym (ne_eqb (bit Q f) 1 b))
+              ∙ ap (λ (t : List ℕ). take n xs ++ t) (sym (left_more f h))
               ∙ e,
         )
 
-    pub write_done : last ≤ f → clearedFrom xs n ≡ pad (length xs) F
+    pub write_done : last ≤ f → cleared_from xs n ≡ pad (length xs) F
     write_done h =
-        let g : take n xs ≡ F = sym (append-nil (take n xs)) ∙ ap (λ (t : List ℕ). take n xs ++ t) (sym (left-none f h)) ∙ e in
+        let g : take n xs ≡ F = sym (append-nil (take n xs)) ∙ ap (λ (t : List ℕ). take n xs ++ t) (sym (left_none f h)) ∙ e in
         let m : n ≡ length F = sym (length-take-le n xs low) ∙ ap length g in
         ap (λ (t : List ℕ). t ++ replicate (length xs - n) 0) g ∙ ap (λ (k : ℕ). F ++ replicate (length xs - k) 0) m

@@ -6,33 +6,33 @@ use Prim.Native.Nat.{ℕ, suc, ◌+◌, ◌-◌, ◌<◌, ◌≤◌}
 use native.Mathlib.Omega.{arith}
 use lib.ListN.{length, get_or, take, drop, replicate, get_or-append}
 use lib.Seq.{length-take-le, split_at, drop-cons}
-use Rattle.codes.specs.Places.{childCode}
+use Rattle.codes.specs.Places.{child_code}
 use Rattle.soundness.specs.Leaves.{leaves, pad}
 use Rattle.soundness.specs.Changes.{children, refined, coarsened}
-use Rattle.soundness.proofs.Slots.{refine-at, coarsen-at}
-use Rattle.soundness.proofs.Fresh.{leaves-le}
-use Rattle.slots.specs.Slots.{splitAt, joinAt}
-use Rattle.slots.proofs.Slots.{split-pad, join-pad}
+use Rattle.soundness.proofs.Slots.{refine_at, coarsen_at}
+use Rattle.soundness.proofs.Fresh.{leaves_le}
+use Rattle.slots.specs.Slots.{split_slot, join_at}
+use Rattle.slots.proofs.Slots.{split_pad, join_pad}
 use Rattle.leaves.specs.Leaves.{Filled}
 
-pub filled-le : (xs : List ℕ) (n : ℕ) → Filled xs n → n ≤ length xs
-filled-le xs n F = omega (arith, F.count, leaves-le xs)
+pub filled_le : (xs : List ℕ) (n : ℕ) → Filled xs n → n ≤ length xs
+filled_le xs n F = omega (arith, F.count, leaves_le xs)
 
 module _ (xs : List ℕ) (n i : ℕ) (F : Filled xs n) (low : i < n) where
   -- the slots are the leaves and zeros
   abbrev zeros : List ℕ
   zeros = replicate (length xs - length (leaves xs)) 0
 
-  pub slot-leaf : get_or xs i 0 ≡ get_or (leaves xs) i 0
-  slot-leaf = ap (λ (t : List ℕ). get_or t i 0) F.form ∙ get_or-append (leaves xs) zeros 0 i (omega (arith, F.count))
+  pub slot_leaf : get_or xs i 0 ≡ get_or (leaves xs) i 0
+  slot_leaf = ap (λ (t : List ℕ). get_or t i 0) F.form ∙ get_or-append (leaves xs) zeros 0 i (omega (arith, F.count))
 
   -- what stands before the slot
   front_length : length (take i (leaves xs)) ≡ i
   front_length = length-take-le i (leaves xs) (omega (arith, F.count))
 
-  pub split-is : n + 3 ≤ length xs → (a b c d : ℕ) → a ≡ childCode (get_or xs i 0) 0 → b ≡ childCode (get_or xs i 0) 1 → c ≡ childCode (get_or xs i 0) 2 →
-      d ≡ childCode (get_or xs i 0) 3 → splitAt xs i n a b c d ≡ pad (length xs) (refined (get_or xs i 0) (leaves xs))
-  split-is r a b c d ea eb ec ed =
+  pub split_is : n + 3 ≤ length xs → (a b c d : ℕ) → a ≡ child_code (get_or xs i 0) 0 → b ≡ child_code (get_or xs i 0) 1 → c ≡ child_code (get_or xs i 0) 2 →
+      d ≡ child_code (get_or xs i 0) 3 → split_slot xs i n a b c d ≡ pad (length xs) (refined (get_or xs i 0) (leaves xs))
+  split_is r a b c d ea eb ec ed =
       let L = leaves xs in
       let m = length xs in
       let pre = take i L in
@@ -40,17 +40,17 @@ module _ (xs : List ℕ) (n i : ℕ) (F : Filled xs n) (low : i < n) where
       let post = drop (suc i) L in
       let h : i < length L = omega (arith, F.count) in
       let e : L ≡ pre ++ (x ∷ post) = split_at L i 0 h in
-      let s = slot-leaf in
+      let s = slot_leaf in
       let four : ◌≡◌ {A = List ℕ} (a ∷ b ∷ c ∷ d ∷ post) (children x ++ post) = cc in
-      ap (λ (t : List ℕ). splitAt t i n a b c d) F.form
-      ∙ ap₂ (λ (j k : ℕ). splitAt (pad m L) j k a b c d) (sym front_length) (sym F.count)
-      ∙ ap (λ (t : List ℕ). splitAt (pad m t) (length pre) (length t) a b c d) e
-      ∙ split-pad m pre post x a b c d (omega (arith, F.count, ap length e))
+      ap (λ (t : List ℕ). split_slot t i n a b c d) F.form
+      ∙ ap₂ (λ (j k : ℕ). split_slot (pad m L) j k a b c d) (sym front_length) (sym F.count)
+      ∙ ap (λ (t : List ℕ). split_slot (pad m t) (length pre) (length t) a b c d) e
+      ∙ split_pad m pre post x a b c d (omega (arith, F.count, ap length e))
       ∙ ap (λ (t : List ℕ). pad m (pre ++ t)) four
-      ∙ ap (pad m) (sym (refine-at L i F.ascend h))
-      ∙ ap (λ (y : ℕ). pad m (refined y L)) (sym slot-leaf)
+      ∙ ap (pad m) (sym (refine_at L i F.ascend h))
+      ∙ ap (λ (y : ℕ). pad m (refined y L)) (sym slot_leaf)
 
-  pub join_is : i + 4 ≤ n → (c : ℕ) → get_or xs i 0 ≡ childCode c 0 → joinAt xs i n c ≡ pad (length xs) (coarsened c (leaves xs))
+  pub join_is : i + 4 ≤ n → (c : ℕ) → get_or xs i 0 ≡ child_code c 0 → join_at xs i n c ≡ pad (length xs) (coarsened c (leaves xs))
   join_is r c f =
       let L = leaves xs in
       let m = length xs in
@@ -63,8 +63,8 @@ module _ (xs : List ℕ) (n i : ℕ) (F : Filled xs n) (low : i < n) where
       drop-cons L (suc i) 0 (omega arith)
       ∙ ap (λ (t : List ℕ). j (suc i) ∷ t) (drop-cons L (suc (suc i)) 0 (omega arith) ∙ ap (λ (t : List ℕ). j (suc (suc i)) ∷ t) (drop-cons L (suc (suc (suc i))) 0 (omega arith))) in
       let e : L ≡ pre ++ (j i ∷ j (suc i) ∷ j (suc (suc i)) ∷ j (suc (suc (suc i))) ∷ post) = split_at L i 0 h ∙ ap (λ (t : List ℕ). pre ++ (j i ∷ t)) four in
-      ap (λ (t : List ℕ). joinAt t i n c) F.form
-      ∙ ap₂ (λ (k l : ℕ). joinAt (pad m L) k l c) (sym front_length) (sym F.count)
-      ∙ ap (λ (t : List ℕ). joinAt (pad m t) (length pre) (length t) c) e
-      ∙ join-pad m pre post (j i) (j (suc i)) (j (suc (suc i))) (j (suc (suc (suc i)))) c (omega (arith, leaves-le xs, ap length e))
-      ∙ ap (pad m) (sym (coarsen-at L c i F.ascend h (sym slot-leaf ∙ f)))
+      ap (λ (t : List ℕ). join_at t i n c) F.form
+      ∙ ap₂ (λ (k l : ℕ). join_at (pad m L) k l c) (sym front_length) (sym F.count)
+      ∙ ap (λ (t : List ℕ). join_at (pad m t) (length pre) (length t) c) e
+      ∙ join_pad m pre post (j i) (j (suc i)) (j (suc (suc i))) (j (suc (suc (suc i)))) c (omega (arith, leaves_le xs, ap length e))
+      ∙ ap (pad m) (sym (coarsen_at L c i F.ascend h (sym slot_leaf ∙ f)))

@@ -9,7 +9,7 @@
 --
 -- Assumes nothing.
 use Rattle.std.specs.Prelude.{List, ◌≡◌, ℕ, ◌+◌, ◌-◌, ◌<◌, ◌≤◌, length, get_or, take, drop}
-use Rattle.codes.specs.Places.{childCode}
+use Rattle.codes.specs.Places.{child_code}
 use Rattle.soundness.specs.Leaves.{Leaf, Ascends, leaves, pad}
 use Rattle.soundness.specs.Soundness.{Covers}
 use Rattle.soundness.specs.Changes.{under}
@@ -35,8 +35,8 @@ LeafAt xs n code Nothing = Leaf (take n xs) code → ⊥
 
 -- "if all four children are leaves"
 abbrev pub FourAt : List ℕ → ℕ → ℕ → Found → Type 0
-FourAt xs n cell (At i) = (i + 4 ≤ n) × ((q : ℕ) → q < 4 → get_or xs (i + q) 0 ≡ childCode cell q)
-FourAt xs n cell Nothing = ((q : ℕ) → q < 4 → Leaf (take n xs) (childCode cell q)) → ⊥
+FourAt xs n cell (At i) = (i + 4 ≤ n) × ((q : ℕ) → q < 4 → get_or xs (i + q) 0 ≡ child_code cell q)
+FourAt xs n cell Nothing = ((q : ℕ) → q < 4 → Leaf (take n xs) (child_code cell q)) → ⊥
 
 -- "the leaves equal to or inside that cell"
 pub record RunOf (xs : List ℕ) (n cell : ℕ) (r : Run) : Type 0 where

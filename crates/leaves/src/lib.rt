@@ -4,9 +4,9 @@
 ghost use Rattle.std.specs.Prelude.{◌≡◌, ◌+◌, ◌<◌, ◌≤◌, length, get_or, take};
 ghost use Rattle.solids.specs.Solids.{Known};
 ghost use Rattle.codes.specs.Codes.{Code, depth};
-ghost use Rattle.codes.specs.Places.{childCode};
+ghost use Rattle.codes.specs.Places.{child_code};
 ghost use Rattle.soundness.specs.Leaves.{Ascends, leaves, pad};
-ghost use Rattle.soundness.specs.Changes.{freshLeaves, refined, coarsened};
+ghost use Rattle.soundness.specs.Changes.{fresh_leaves, refined, coarsened};
 ghost use Rattle.leaves.specs.Leaves.{Covered, Filled, LeafAt, FourAt, RunOf};
 
 // A place among the leaves, or none.
@@ -80,7 +80,7 @@ pub fn run_of(slots: &[u64], n: usize, cell: u64) -> Run
 // How many faces of the solid are in the set.
 pub fn fresh_count(solid: u64, faces: u64) -> usize
     requires { Known solid }
-    ensures { result ≡ length (freshLeaves solid faces) }
+    ensures { result ≡ length (fresh_leaves solid faces) }
 {
     let last = solids::faces_of(solid);
     let mut count = 0;
@@ -94,8 +94,8 @@ pub fn fresh_count(solid: u64, faces: u64) -> usize
 
 // Writes the faces of the set in order, and then zeros.
 pub fn fresh_into(slots: &mut [u64], solid: u64, faces: u64)
-    requires { Known solid × (length (freshLeaves solid faces) ≤ length slots.old) }
-    ensures { slots.new ≡ pad (length slots.old) (freshLeaves solid faces) }
+    requires { Known solid × (length (fresh_leaves solid faces) ≤ length slots.old) }
+    ensures { slots.new ≡ pad (length slots.old) (fresh_leaves solid faces) }
 {
     let last = solids::faces_of(solid);
     let mut n = 0;
@@ -126,7 +126,7 @@ pub fn split_leaf(slots: &mut [u64], n: usize, at: usize)
 // Joins the four leaves from `at` on, the children of the cell: they become that one leaf, and the later leaves move down
 // three slots. That they are the children is asked of the first alone: the others stand after it.
 pub fn join_leaves(slots: &mut [u64], n: usize, at: usize, cell: u64)
-    requires { Filled slots.old n × (at + 4 ≤ n) × (get_or slots.old at 0 ≡ childCode cell 0) }
+    requires { Filled slots.old n × (at + 4 ≤ n) × (get_or slots.old at 0 ≡ child_code cell 0) }
     ensures { slots.new ≡ pad (length slots.old) (coarsened cell (leaves slots.old)) }
 {
     slots::join(slots, at, n, cell);

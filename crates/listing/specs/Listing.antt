@@ -1,26 +1,26 @@
 -- What `meshlist` prints for an input. Bytes and text are ASCII codes.
 --
 --   newline, space, R, C == the bytes of these names
---   solidLine d       == the line of the digit d
---   orderLine l c     == the line of an order: the letter l, a space, the 16 hexadecimal digits of c
---   SolidFirst bs d   == the bytes begin with the solid line of d
---   OrderFirst bs l c == the bytes begin with the order line of l and c
---   Done l xs c o     == o is the outcome of the order l and c on the mesh in the slots xs
---   unreadable        == the line `unreadable`
---   refusedWord       == the word `refused` and a space
---   width k           == how many digits the number k has
---   answer k          == what a call with the number k prints
---   difference m      == the level difference of what a side meets, after a space
---   LeafLine L a t    == t is the line of the leaf a among the leaves L
---   LeafLines L A t   == t are the lines of the leaves A among the leaves L
---   bare              == 8,192 slots with nothing in them
---   Goes xs bs t      == with the mesh in the slots xs, the bytes bs that are left print t
---   Prints bs t       == the input bs prints t
+--   solid_line d         == the line of the digit d
+--   order_line l c       == the line of an order: the letter l, a space, the 16 hexadecimal digits of c
+--   SolidFirst bs d      == the bytes begin with the solid line of d
+--   OrderFirst bs l c    == the bytes begin with the order line of l and c
+--   Done l xs c o        == o is the outcome of the order l and c on the mesh in the slots xs
+--   unreadable           == the line `unreadable`
+--   refused_word         == the word `refused` and a space
+--   width k              == how many digits the number k has
+--   answer k             == what a call with the number k prints
+--   difference m         == the level difference of what a side meets, after a space
+--   LeafLine L a t       == t is the line of the leaf a among the leaves L
+--   LeafLines L A t      == t are the lines of the leaves A among the leaves L
+--   bare                 == 8,192 slots with nothing in them
+--   Goes xs bs t         == with the mesh in the slots xs, the bytes bs that are left print t
+--   Prints bs t          == the input bs prints t
 --
 -- Assumes nothing.
 use Rattle.std.specs.Prelude.{cond, List, [], ◌∷◌, ◌++◌, ◌⊎◌, ◌≢◌, ◌≡◌, ℕ, zero, suc, ◌+◌, ◌^◌, ◌<◌, ◌≤◌, ltb, length, drop, replicate}
 use Rattle.text.specs.Text.{digits}
-use Rattle.soundness.specs.Regions.{allFaces}
+use Rattle.soundness.specs.Regions.{all_faces}
 use Rattle.soundness.specs.Leaves.{leaves}
 use Rattle.soundness.specs.Sides.{MetIs}
 use Rattle.soundness.specs.declared.Met.{Met}
@@ -42,21 +42,21 @@ abbrev pub C : ℕ
 C = 67
 
 -- "the solid line is one decimal digit"
-abbrev pub solidLine : ℕ → List ℕ
-solidLine d = (48 + d) ∷ newline ∷ []
+abbrev pub solid_line : ℕ → List ℕ
+solid_line d = (48 + d) ∷ newline ∷ []
 
 -- "`R` or `C`, a space and 16 lower-case hex digits. Each line ends in a newline"
-abbrev pub orderLine : ℕ → ℕ → List ℕ
-orderLine l c = l ∷ space ∷ (digits 16 16 c ++ (newline ∷ []))
+abbrev pub order_line : ℕ → ℕ → List ℕ
+order_line l c = l ∷ space ∷ (digits 16 16 c ++ (newline ∷ []))
 
 pub record SolidFirst (bytes : List ℕ) (d : ℕ) : Type 0 where
   pub digit : d < 10
-  pub is : bytes ≡ solidLine d ++ drop 2 bytes
+  pub is : bytes ≡ solid_line d ++ drop 2 bytes
 
 pub record OrderFirst (bytes : List ℕ) (l c : ℕ) : Type 0 where
   pub letter : (l ≡ R) ⊎ (l ≡ C)
   pub code : c < 2 ^ 64
-  pub is : bytes ≡ orderLine l c ++ drop 19 bytes
+  pub is : bytes ≡ order_line l c ++ drop 19 bytes
 
 -- `R` refines a leaf, `C` coarsens a cell
 abbrev pub Done : ℕ → List ℕ → ℕ → Outcome → Type 0
@@ -67,8 +67,8 @@ abbrev pub unreadable : List ℕ
 unreadable = 117 ∷ 110 ∷ 114 ∷ 101 ∷ 97 ∷ 100 ∷ 97 ∷ 98 ∷ 108 ∷ 101 ∷ newline ∷ []
 
 -- r, e, f, u, s, e, d
-abbrev pub refusedWord : List ℕ
-refusedWord = 114 ∷ 101 ∷ 102 ∷ 117 ∷ 115 ∷ 101 ∷ 100 ∷ space ∷ []
+abbrev pub refused_word : List ℕ
+refused_word = 114 ∷ 101 ∷ 102 ∷ 117 ∷ 115 ∷ 101 ∷ 100 ∷ space ∷ []
 
 -- no refusal's number has more than two digits
 abbrev pub width : ℕ → ℕ
@@ -77,7 +77,7 @@ width k = cond (ltb k 10) 1 2
 -- "A refused line prints `refused`, a space and the number"
 abbrev pub answer : ℕ → List ℕ
 answer zero = []
-answer (suc k) = refusedWord ++ (digits 10 (width (suc k)) (suc k) ++ (newline ∷ []))
+answer (suc k) = refused_word ++ (digits 10 (width (suc k)) (suc k) ++ (newline ∷ []))
 
 -- "the neighbouring leaf's level minus its own": 45 is the sign `-`, 48 and 49 are `0` and `1`; no side of a whole solid is open
 abbrev pub difference : Met → List ℕ
@@ -117,7 +117,7 @@ bare = replicate 8192 0
 pub data Prints (bytes : List ℕ) : List ℕ → Type 0 where
   long : 4096 < length bytes → Prints bytes unreadable
   unread : length bytes ≤ 4096 → ((d : ℕ) → SolidFirst bytes d → ⊥) → Prints bytes unreadable
-  no-mesh : {o : Outcome} (d : ℕ) → length bytes ≤ 4096 → SolidFirst bytes d → Freshened d (allFaces d) bare o →
+  no_mesh : {o : Outcome} (d : ℕ) → length bytes ≤ 4096 → SolidFirst bytes d → Freshened d (all_faces d) bare o →
       o.reply.number ≢ 0 → Prints bytes (answer o.reply.number)
-  mesh : {o : Outcome} {t : List ℕ} (d : ℕ) → length bytes ≤ 4096 → SolidFirst bytes d → Freshened d (allFaces d) bare o →
+  mesh : {o : Outcome} {t : List ℕ} (d : ℕ) → length bytes ≤ 4096 → SolidFirst bytes d → Freshened d (all_faces d) bare o →
       o.reply.number ≡ 0 → Goes o.slots (drop 2 bytes) t → Prints bytes t

@@ -10,7 +10,7 @@ ghost use Rattle.sides.specs.Sides.{InMesh};
 ghost use Rattle.examine.specs.Examined.{whole_of};
 ghost use Rattle.mesh.specs.Calls.{Held};
 ghost use Rattle.listing.specs.Listing.{R, C, SolidFirst, unreadable, answer, difference, LeafLine, LeafLines, Goes, Prints};
-ghost use Rattle.listing.specs.Listing.{width as Listing·width};
+ghost use Rattle.listing.specs.Listing.{width};
 ghost use Rattle.listing.specs.Lines.{SolidIs, OrderIs, Printed, Grown, Obeyed};
 
 use examine::Seen;
@@ -32,7 +32,7 @@ fn put_unreadable(page: &mut [u8], at: usize) -> usize
 
 // How many digits a refusal's number has.
 fn width(number: u64) -> usize
-    ensures { result ≡ Listing·width number }
+    ensures { result ≡ width number }
 {
     if number < 10 { 1 } else { 2 }
 }

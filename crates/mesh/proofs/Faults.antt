@@ -7,14 +7,14 @@ use Prim.Native.Nat.{ℕ, ◌≤◌}
 use lib.ListN.{length}
 use Rattle.refusals.specs.Refusals.{BUFFER, MESH}
 use Rattle.soundness.specs.Soundness.{SoundIn}
-use Rattle.mesh.specs.Calls.{meshFaults}
+use Rattle.mesh.specs.Calls.{mesh_faults}
 
 module _ {A : Type 0} (out : ℕ → A) (Q : ℕ) (xs : List ℕ) (rest : A → Type 0) where
-  pub too_long : (length xs ≤ 8192 → ⊥) → meshFaults out Q xs rest (out BUFFER)
+  pub too_long : (length xs ≤ 8192 → ⊥) → mesh_faults out Q xs rest (out BUFFER)
   too_long h = inl (h, refl)
 
-  pub unsound : (length xs ≤ 8192) × (SoundIn Q xs → ⊥) → meshFaults out Q xs rest (out MESH)
+  pub unsound : (length xs ≤ 8192) × (SoundIn Q xs → ⊥) → mesh_faults out Q xs rest (out MESH)
   unsound h = inr (h.0, inl (h.1, refl))
 
-  pub goes_on : {a : A} → length xs ≤ 8192 → SoundIn Q xs → rest a → meshFaults out Q xs rest a
+  pub goes_on : {a : A} → length xs ≤ 8192 → SoundIn Q xs → rest a → mesh_faults out Q xs rest a
   goes_on l s r = inr (l, inr (s, r))

@@ -1,10 +1,10 @@
 -- Over any series of calls the mesh stays sound: a refused call writes nothing, an accepted one keeps what was sound so.
 --
---   fresh-sound   == an accepted fresh mesh is sound
+--   fresh_sound   == an accepted fresh mesh is sound
 --   or_kept       == a refusal keeps sound slots sound, so what was asked for may be assumed
---   refine-keeps  == a refine leaves sound slots, whatever it answers, and whatever set of faces it is asked with
---   coarsen-keeps == so does a coarsen
---   reach-sound   == what a series of calls leaves is sound
+--   refine_keeps  == a refine leaves sound slots, whatever it answers, and whatever set of faces it is asked with
+--   coarsen_keeps == so does a coarsen
+--   reach_sound   == what a series of calls leaves is sound
 --
 -- Assumes nothing.
 use mathlib.Core.List.{List}
@@ -16,36 +16,36 @@ use lib.ListN.{length}
 use Rattle.refusals.specs.Refusals.{SOLID, BUFFER, ROOM}
 use Rattle.refusals.specs.Answers.{done}
 use Rattle.refusals.proofs.Refusals.{met}
-use Rattle.codes.specs.Codes.{solid, depth, Code, codeFaults}
-use Rattle.codes.specs.Places.{CodeOn, childCode}
-use Rattle.codes.proofs.Places.{code-on-solid, solid-is}
+use Rattle.codes.specs.Codes.{solid, depth, Code, code_faults}
+use Rattle.codes.specs.Places.{CodeOn, child_code}
+use Rattle.codes.proofs.Places.{code_on_solid, solid_is}
 use Rattle.soundness.specs.Regions.{FaceSet}
 use Rattle.soundness.specs.Leaves.{Leaf, leaves, pad}
 use Rattle.soundness.specs.Soundness.{Sound, SoundIn}
 use Rattle.soundness.specs.Changes.{refined, coarsened}
 use Rattle.soundness.specs.Sides.{BlocksRefine, BlocksCoarsen, Some}
-use Rattle.soundness.proofs.Cells.{child-cell}
-use Rattle.soundness.proofs.Fresh.{sound-solid, sound-faces}
+use Rattle.soundness.proofs.Cells.{child_cell}
+use Rattle.soundness.proofs.Fresh.{sound_solid, sound_faces}
 use Rattle.soundness.proofs.Fresh as fresh
-use Rattle.soundness.proofs.OnCodes.{refining-keeps, coarsening-keeps}
+use Rattle.soundness.proofs.OnCodes.{refining_keeps, coarsening_keeps}
 use Rattle.mesh.specs.Answers.{Outcome, outcome}
-use Rattle.mesh.specs.Calls.{kept, BlockedBy, refineEnd, coarsenEnd, Freshened, Refined, Coarsened}
-use Rattle.mesh.specs.Series.{Reach, start, anew, not-anew, refine, coarsen}
+use Rattle.mesh.specs.Calls.{kept, BlockedBy, refine_end, coarsen_end, Freshened, Refined, Coarsened}
+use Rattle.mesh.specs.Series.{Reach, start, anew, not_anew, refine, coarsen}
 
 slots_same : {o p : Outcome} → o ≡ p → o.slots ≡ p.slots
 slots_same e = ap (λ (x : Outcome). x.slots) e
 
 -- a call that is done was not refused
-not-kept : (xs : List ℕ) (o : Outcome) (k : ℕ) → 0 < k → o.reply.number ≡ 0 → o ≡ kept xs k → ⊥
-not-kept xs o k h z e = omega (arith, ap (λ (p : Outcome). p.reply.number) e)
+not_kept : (xs : List ℕ) (o : Outcome) (k : ℕ) → 0 < k → o.reply.number ≡ 0 → o ≡ kept xs k → ⊥
+not_kept xs o k h z e = omega (arith, ap (λ (p : Outcome). p.reply.number) e)
 
-fresh-sound : (S Q : ℕ) (xs : List ℕ) (o : Outcome) → FaceSet S Q → Freshened S Q xs o → o.reply.number ≡ 0 → Sound S Q o.slots
-fresh-sound S Q xs o ok f z =
-    let short = met (not-kept xs o BUFFER (omega arith) z) f in
-    let known = met (not-kept xs o SOLID (omega arith) z) short.1 in
-    let room = met (not-kept xs o ROOM (omega arith) z) known.1 in
+fresh_sound : (S Q : ℕ) (xs : List ℕ) (o : Outcome) → FaceSet S Q → Freshened S Q xs o → o.reply.number ≡ 0 → Sound S Q o.slots
+fresh_sound S Q xs o ok f z =
+    let short = met (not_kept xs o BUFFER (omega arith) z) f in
+    let known = met (not_kept xs o SOLID (omega arith) z) short.1 in
+    let room = met (not_kept xs o ROOM (omega arith) z) known.1 in
     subst (Sound S Q) (sym (slots_same room.1))
-    (fresh.fresh-sound S Q (length xs) known.0 ok room.0 short.0)
+    (fresh.fresh_sound S Q (length xs) known.0 ok room.0 short.0)
 
 -- a fresh call that was not accepted
 fresh_kept : (S Q : ℕ) (xs : List ℕ) (o : Outcome) → Freshened S Q xs o → (o.reply.number ≡ 0 → ⊥) → o.slots ≡ xs
@@ -65,57 +65,57 @@ module _ (S Q : ℕ) (xs : List ℕ) (o : Outcome) (s : Sound S Q xs) where
   or_kept (inl h) f = left xs (slots_same h.1) s
   or_kept (inr h) f = f h.0 h.1
 
-  code-or-kept : (c : ℕ) (rest : Outcome → Type 0) → codeFaults (kept xs) c rest o → (Code c → rest o → Still) → Still
-  code-or-kept c rest h f =
+  code_or_kept : (c : ℕ) (rest : Outcome → Type 0) → code_faults (kept xs) c rest o → (Code c → rest o → Still) → Still
+  code_or_kept c rest h f =
       or_kept h (λ known h₁. or_kept h₁ (λ on h₂. or_kept h₂ (λ deep h₃. or_kept h₃ (λ tail r.
       f (record { known = known; on = on; deep = deep; tail = tail }) r))))
 
-  or-blocked : {X : Type 0} (P : ℕ → Type 0) → BlockedBy xs P o ⊎ ((Some P → ⊥) × X) → ((Some P → ⊥) → X → Still) → Still
-  or-blocked P (inl h) f = left xs (slots_same h.is) s
-  or-blocked P (inr h) f = f h.0 h.1
+  or_blocked : {X : Type 0} (P : ℕ → Type 0) → BlockedBy xs P o ⊎ ((Some P → ⊥) × X) → ((Some P → ⊥) → X → Still) → Still
+  or_blocked P (inl h) f = left xs (slots_same h.is) s
+  or_blocked P (inr h) f = f h.0 h.1
 
   -- the call's own set of faces
-  asked-with : (Q' : ℕ) → SoundIn Q' xs → Sound S Q' xs
-  asked-with Q' = subst (λ (T : ℕ). Sound T Q' xs) (sound-solid S Q xs s)
+  asked_with : (Q' : ℕ) → SoundIn Q' xs → Sound S Q' xs
+  asked_with Q' = subst (λ (T : ℕ). Sound T Q' xs) (sound_solid S Q xs s)
 
   made : (Q' : ℕ) (ys : List ℕ) → o ≡ outcome (done 0) ys → Sound S Q' xs → Sound S Q' ys → Still
-  made Q' ys e s' n = left ys (slots_same e) (sound-faces S Q Q' xs ys s s' n)
+  made Q' ys e s' n = left ys (slots_same e) (sound_faces S Q Q' xs ys s s' n)
 
-  refine-keeps : (Q' c : ℕ) → Refined Q' xs c o → Still
-  refine-keeps Q' c r =
+  refine_keeps : (Q' c : ℕ) → Refined Q' xs c o → Still
+  refine_keeps Q' c r =
       or_kept r (λ short r₁.
       or_kept r₁ (λ sound r₂.
-      code-or-kept c (refineEnd xs c) r₂ (λ code r₃.
+      code_or_kept c (refine_end xs c) r₂ (λ code r₃.
       or_kept r₃ (λ leaf r₄.
       or_kept r₄ (λ deep r₅.
-      or-blocked (BlocksRefine (leaves xs) c) r₅ (λ free r₆.
+      or_blocked (BlocksRefine (leaves xs) c) r₅ (λ free r₆.
       or_kept r₆ (λ room e.
-      let s' = asked-with Q' sound in
-      made Q' (pad (length xs) (refined c (leaves xs))) e s' (refining-keeps S Q' c xs s' leaf deep free room))))))))
+      let s' = asked_with Q' sound in
+      made Q' (pad (length xs) (refined c (leaves xs))) e s' (refining_keeps S Q' c xs s' leaf deep free room))))))))
 
-  coarsen-keeps : (Q' c : ℕ) → Coarsened Q' xs c o → Still
-  coarsen-keeps Q' c r =
+  coarsen_keeps : (Q' c : ℕ) → Coarsened Q' xs c o → Still
+  coarsen_keeps Q' c r =
       or_kept r (λ short r₁.
       or_kept r₁ (λ sound r₂.
-      code-or-kept c (coarsenEnd xs c) r₂ (λ code r₃.
+      code_or_kept c (coarsen_end xs c) r₂ (λ code r₃.
       or_kept r₃ (λ deep r₄.
       or_kept r₄ (λ four r₅.
-      or-blocked (BlocksCoarsen (leaves xs) c) r₅ (λ free e.
-      let s' = asked-with Q' sound in
-      let w = on-solid c code deep (four 0 (omega arith)) in
-      made Q' (pad (length xs) (coarsened c (leaves xs))) e s' (coarsening-keeps S Q' c xs s' w deep four free)))))))
+      or_blocked (BlocksCoarsen (leaves xs) c) r₅ (λ free e.
+      let s' = asked_with Q' sound in
+      let w = on_solid c code deep (four 0 (omega arith)) in
+      made Q' (pad (length xs) (coarsened c (leaves xs))) e s' (coarsening_keeps S Q' c xs s' w deep four free)))))))
     where
       -- the solid of a cell whose first child is a leaf
-      on-solid : (c : ℕ) → Code c → depth c < 26 → Leaf (leaves xs) (childCode c 0) → CodeOn S c
-      on-solid c code d m =
-          let w = code-on-solid c code in
-          let k = childCode c 0 in
-          let e : solid c ≡ S = sym (solid-is (solid c) k (child-cell c 0 w d (omega arith))) ∙ solid-is S k (s.mesh.covers.cells k m) in
+      on_solid : (c : ℕ) → Code c → depth c < 26 → Leaf (leaves xs) (child_code c 0) → CodeOn S c
+      on_solid c code d m =
+          let w = code_on_solid c code in
+          let k = child_code c 0 in
+          let e : solid c ≡ S = sym (solid_is (solid c) k (child_cell c 0 w d (omega arith))) ∙ solid_is S k (s.mesh.covers.cells k m) in
           subst (λ (T : ℕ). CodeOn T c) e w
 
-pub reach-sound : {S Q : ℕ} {xs : List ℕ} → Reach S Q xs → Sound S Q xs
-reach-sound (start S Q {xs} {o} ok f z) = fresh-sound S Q xs o ok f z
-reach-sound (anew S' Q' {xs} {o} r ok f z) = fresh-sound S' Q' xs o ok f z
-reach-sound (not-anew {S} {Q} S' Q' {xs} {o} r f n) = subst (Sound S Q) (sym (fresh_kept S' Q' xs o f n)) (reach-sound r)
-reach-sound (refine {S} {Q} Q' c {xs} {o} r f) = refine-keeps S Q xs o (reach-sound r) Q' c f
-reach-sound (coarsen {S} {Q} Q' c {xs} {o} r f) = coarsen-keeps S Q xs o (reach-sound r) Q' c f
+pub reach_sound : {S Q : ℕ} {xs : List ℕ} → Reach S Q xs → Sound S Q xs
+reach_sound (start S Q {xs} {o} ok f z) = fresh_sound S Q xs o ok f z
+reach_sound (anew S' Q' {xs} {o} r ok f z) = fresh_sound S' Q' xs o ok f z
+reach_sound (not_anew {S} {Q} S' Q' {xs} {o} r f n) = subst (Sound S Q) (sym (fresh_kept S' Q' xs o f n)) (reach_sound r)
+reach_sound (refine {S} {Q} Q' c {xs} {o} r f) = refine_keeps S Q xs o (reach_sound r) Q' c f
+reach_sound (coarsen {S} {Q} Q' c {xs} {o} r f) = coarsen_keeps S Q xs o (reach_sound r) Q' c f

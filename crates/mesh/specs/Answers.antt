@@ -1,16 +1,16 @@
 -- What the calls on a mesh leave: the reply, and every slot of the lent slice.
 --
---   Outcome        == a reply and the slots after the call
---   told n v       == the reply of the number n and the value v
---   blocked b      == BLOCKED, with the least blocking leaf
---   notCrossed k, noBounds k == a refusal: its number, and 0 in every other part
---   changeReply e  == the number and value of each case of the enum Change
---   Crossing       == number, level difference and two codes
---   crossing m     == those of what a side meets
---   acrossReply e  == those of each case of the enum Facing
---   Part           == number, start and count of a part of the slice
---   boundsReply e  == those of each case of the enum Extent
---   countReply e   == the number and value of each case of the enum Counted
+--   Outcome                    == a reply and the slots after the call
+--   told n v                   == the reply of the number n and the value v
+--   blocked b                  == BLOCKED, with the least blocking leaf
+--   not_crossed k, no_bounds k == a refusal: its number, and 0 in every other part
+--   change_reply e             == the number and value of each case of the enum Change
+--   Crossing                   == number, level difference and two codes
+--   crossing m                 == those of what a side meets
+--   across_reply e             == those of each case of the enum Facing
+--   Part                       == number, start and count of a part of the slice
+--   bounds_reply e             == those of each case of the enum Extent
+--   count_reply e              == the number and value of each case of the enum Counted
 --
 -- Assumes nothing.
 use Rattle.std.specs.Prelude.{List, ℕ, ℤ, pos, negsuc}
@@ -41,10 +41,10 @@ told n v = record { number = n; value = v }
 abbrev pub blocked : ℕ → Reply
 blocked b = told BLOCKED b
 
-abbrev pub changeReply : Change → Reply
-changeReply change.Made = done 0
-changeReply (change.Blocked b) = blocked b
-changeReply (change.Refused k) = refused k
+abbrev pub change_reply : Change → Reply
+change_reply change.Made = done 0
+change_reply (change.Blocked b) = blocked b
+change_reply (change.Refused k) = refused k
 
 pub record Crossing : Type 0 where
   pub number : ℕ
@@ -63,12 +63,12 @@ crossing (Equal b) = crossed (pos 0) b 0
 crossing (Smaller b c) = crossed (pos 1) b c
 crossing Open = crossed (pos 0) 0 0
 
-abbrev pub notCrossed : ℕ → Crossing
-notCrossed k = record { number = k; level = pos 0; first = 0; second = 0 }
+abbrev pub not_crossed : ℕ → Crossing
+not_crossed k = record { number = k; level = pos 0; first = 0; second = 0 }
 
-abbrev pub acrossReply : Facing → Crossing
-acrossReply (facing.Side m) = crossing m
-acrossReply (facing.Refused k) = notCrossed k
+abbrev pub across_reply : Facing → Crossing
+across_reply (facing.Side m) = crossing m
+across_reply (facing.Refused k) = not_crossed k
 
 pub record Part : Type 0 where
   pub number : ℕ
@@ -78,13 +78,13 @@ pub record Part : Type 0 where
 abbrev pub part : ℕ → ℕ → Part
 part a m = record { number = 0; start = a; count = m }
 
-abbrev pub noBounds : ℕ → Part
-noBounds k = record { number = k; start = 0; count = 0 }
+abbrev pub no_bounds : ℕ → Part
+no_bounds k = record { number = k; start = 0; count = 0 }
 
-abbrev pub boundsReply : Extent → Part
-boundsReply (extent.Part a m) = part a m
-boundsReply (extent.Refused k) = noBounds k
+abbrev pub bounds_reply : Extent → Part
+bounds_reply (extent.Part a m) = part a m
+bounds_reply (extent.Refused k) = no_bounds k
 
-abbrev pub countReply : Counted → Reply
-countReply (counted.Leaves n) = done n
-countReply (counted.Refused k) = refused k
+abbrev pub count_reply : Counted → Reply
+count_reply (counted.Leaves n) = done n
+count_reply (counted.Refused k) = refused k

@@ -1,36 +1,36 @@
 -- What the calls on a mesh answer, for any slots and numbers. xs are the slots before the call; S is the number of a solid, Q
 -- a set of its faces, all of them for a whole mesh.
 --
---   Freshened S Q xs o    == o is the outcome of making the mesh anew
---   Refined Q xs c o      == o is the outcome of refining the leaf c
---   Coarsened Q xs c o    == o is the outcome of coarsening to the cell c
---   AcrossOf Q xs c s a   == a is the answer for what lies across side s of the leaf c
---   BoundsOf Q xs c p     == p is the answer for where the run under the cell c starts and how many leaves it has
---   RunOf Q xs c ys       == ys are the slots of the run under the cell c
---   CountOf Q xs c r      == r is the reply for the number of leaves in that run
---   Held xs n             == the slots hold a sound whole mesh of n leaves: what an inner function rests on
---   kept xs k             == the outcome of a refusal: its number, and the slots as they were
---   meshFaults            == what every call on a mesh asks first
---   unlessBlocked, BlockedBy == a change is stopped by the least leaf in its way, or goes on
---   refineEnd, refineLeafEnd, coarsenEnd, coarsenLeavesEnd, acrossEnd, boundsEnd == what is asked from a point in the sequence on
---   Crossed xs c s a      == a are the parts of what side s of the leaf c meets
---   Bounded xs c p        == p is where the run under c starts and how many leaves it has, and the part of the slots holds them
---   comeBefore, start_of   == how many leaves come before the run; where it starts, 0 if it is empty
+--   Freshened S Q xs o                                                                   == o is the outcome of making the mesh anew
+--   Refined Q xs c o                                                                     == o is the outcome of refining the leaf c
+--   Coarsened Q xs c o                                                                   == o is the outcome of coarsening to the cell c
+--   AcrossOf Q xs c s a                                                                  == a is the answer for what lies across side s of the leaf c
+--   BoundsOf Q xs c p                                                                    == p is the answer for where the run under the cell c starts and how many leaves it has
+--   RunOf Q xs c ys                                                                      == ys are the slots of the run under the cell c
+--   CountOf Q xs c r                                                                     == r is the reply for the number of leaves in that run
+--   Held xs n                                                                            == the slots hold a sound whole mesh of n leaves: what an inner function rests on
+--   kept xs k                                                                            == the outcome of a refusal: its number, and the slots as they were
+--   mesh_faults                                                                          == what every call on a mesh asks first
+--   unless_blocked, BlockedBy                                                            == a change is stopped by the least leaf in its way, or goes on
+--   refine_end, refine_leaf_end, coarsen_end, coarsen_leaves_end, across_end, bounds_end == what is asked from a point in the sequence on
+--   Crossed xs c s a                                                                     == a are the parts of what side s of the leaf c meets
+--   Bounded xs c p                                                                       == p is where the run under c starts and how many leaves it has, and the part of the slots holds them
+--   come_before, start_of                                                                == how many leaves come before the run; where it starts, 0 if it is empty
 --
 -- Assumes nothing.
 use Rattle.std.specs.Prelude.{cond, List, [], ◌∷◌, ◌⊎◌, ◌≡◌, ℕ, ◌+◌, ◌<◌, ◌≤◌, eqb, ltb, length, take, drop}
 use Rattle.solids.specs.Solids.{Known}
-use Rattle.refusals.specs.Refusals.{SOLID, DIRECTION, DEEP, BUFFER, MESH, NOT-LEAF, NOT-FOUR, ROOM, need}
+use Rattle.refusals.specs.Refusals.{SOLID, DIRECTION, DEEP, BUFFER, MESH, NOT_LEAF, NOT_FOUR, ROOM, need}
 use Rattle.refusals.specs.Answers.{Reply, done, refused}
-use Rattle.codes.specs.Codes.{depth, codeFaults}
-use Rattle.codes.specs.Places.{childCode}
+use Rattle.codes.specs.Codes.{depth, code_faults}
+use Rattle.codes.specs.Places.{child_code}
 use Rattle.soundness.specs.Leaves.{Leaf, leaves, pad}
 use Rattle.soundness.specs.Soundness.{SoundIn}
-use Rattle.soundness.specs.Changes.{freshLeaves, refined, coarsened, under}
+use Rattle.soundness.specs.Changes.{fresh_leaves, refined, coarsened, under}
 use Rattle.soundness.specs.Sides.{MetIs, BlocksRefine, BlocksCoarsen, Some, LeastOf}
 use Rattle.soundness.specs.declared.Met.{Met}
 use Rattle.examine.specs.Examined.{whole_of}
-use Rattle.mesh.specs.Answers.{Outcome, outcome, blocked, Crossing, crossing, notCrossed, Part, part, noBounds}
+use Rattle.mesh.specs.Answers.{Outcome, outcome, blocked, Crossing, crossing, not_crossed, Part, part, no_bounds}
 
 pub record Held (xs : List ℕ) (n : ℕ) : Type 0 where
   pub sound : SoundIn (whole_of xs) xs
@@ -46,49 +46,49 @@ pub record BlockedBy (xs : List ℕ) (P : ℕ → Type 0) (o : Outcome) : Type 0
   pub least : LeastOf P leaf
   pub is : o ≡ outcome (blocked leaf) xs
 
-abbrev pub unlessBlocked : List ℕ → (ℕ → Type 0) → (Outcome → Type 0) → Outcome → Type 0
-unlessBlocked xs P rest o = BlockedBy xs P o ⊎ ((Some P → ⊥) × rest o)
+abbrev pub unless_blocked : List ℕ → (ℕ → Type 0) → (Outcome → Type 0) → Outcome → Type 0
+unless_blocked xs P rest o = BlockedBy xs P o ⊎ ((Some P → ⊥) × rest o)
 
 -- every call on a mesh begins so: 10, 11
-abbrev pub meshFaults : {A : Type 0} → (ℕ → A) → ℕ → List ℕ → (A → Type 0) → A → Type 0
-meshFaults out Q xs rest = need (length xs ≤ 8192) (out BUFFER) (need (SoundIn Q xs) (out MESH) rest)
+abbrev pub mesh_faults : {A : Type 0} → (ℕ → A) → ℕ → List ℕ → (A → Type 0) → A → Type 0
+mesh_faults out Q xs rest = need (length xs ≤ 8192) (out BUFFER) (need (SoundIn Q xs) (out MESH) rest)
 
 -- "Fresh: 10, 1, 15": "all faces of a solid in order, zeros after"
 abbrev pub Freshened : ℕ → ℕ → List ℕ → Outcome → Type 0
 Freshened S Q xs =
     need (length xs ≤ 8192) (kept xs BUFFER)
     (need (Known S) (kept xs SOLID)
-    (need (length (freshLeaves S Q) ≤ length xs) (kept xs ROOM)
-    (λ o. o ≡ outcome (done 0) (pad (length xs) (freshLeaves S Q)))))
+    (need (length (fresh_leaves S Q) ≤ length xs) (kept xs ROOM)
+    (λ o. o ≡ outcome (done 0) (pad (length xs) (fresh_leaves S Q)))))
 
 -- "Refine: 10, 11, 1 to 4, 12, 7, 14, 15"
-abbrev pub refineLeafEnd : List ℕ → ℕ → Outcome → Type 0
-refineLeafEnd xs c =
+abbrev pub refine_leaf_end : List ℕ → ℕ → Outcome → Type 0
+refine_leaf_end xs c =
     need (depth c < 26) (kept xs DEEP)
-    (unlessBlocked xs (BlocksRefine (leaves xs) c)
+    (unless_blocked xs (BlocksRefine (leaves xs) c)
     (need (length (leaves xs) + 3 ≤ length xs) (kept xs ROOM)
     (λ o. o ≡ outcome (done 0) (pad (length xs) (refined c (leaves xs))))))
 
-abbrev pub refineEnd : List ℕ → ℕ → Outcome → Type 0
-refineEnd xs c = need (Leaf (leaves xs) c) (kept xs NOT-LEAF) (refineLeafEnd xs c)
+abbrev pub refine_end : List ℕ → ℕ → Outcome → Type 0
+refine_end xs c = need (Leaf (leaves xs) c) (kept xs NOT_LEAF) (refine_leaf_end xs c)
 
 abbrev pub Refined : ℕ → List ℕ → ℕ → Outcome → Type 0
-Refined Q xs c = meshFaults (kept xs) Q xs (codeFaults (kept xs) c (refineEnd xs c))
+Refined Q xs c = mesh_faults (kept xs) Q xs (code_faults (kept xs) c (refine_end xs c))
 
 -- "Coarsen: 10, 11, 1 to 4, 7, 13, 14"
-abbrev pub coarsenLeavesEnd : List ℕ → ℕ → Outcome → Type 0
-coarsenLeavesEnd xs c =
-    unlessBlocked xs (BlocksCoarsen (leaves xs) c)
+abbrev pub coarsen_leaves_end : List ℕ → ℕ → Outcome → Type 0
+coarsen_leaves_end xs c =
+    unless_blocked xs (BlocksCoarsen (leaves xs) c)
     (λ o. o ≡ outcome (done 0) (pad (length xs) (coarsened c (leaves xs))))
 
-abbrev pub coarsenEnd : List ℕ → ℕ → Outcome → Type 0
-coarsenEnd xs c =
+abbrev pub coarsen_end : List ℕ → ℕ → Outcome → Type 0
+coarsen_end xs c =
     need (depth c < 26) (kept xs DEEP)
-    (need ((q : ℕ) → q < 4 → Leaf (leaves xs) (childCode c q)) (kept xs NOT-FOUR)
-    (coarsenLeavesEnd xs c))
+    (need ((q : ℕ) → q < 4 → Leaf (leaves xs) (child_code c q)) (kept xs NOT_FOUR)
+    (coarsen_leaves_end xs c))
 
 abbrev pub Coarsened : ℕ → List ℕ → ℕ → Outcome → Type 0
-Coarsened Q xs c = meshFaults (kept xs) Q xs (codeFaults (kept xs) c (coarsenEnd xs c))
+Coarsened Q xs c = mesh_faults (kept xs) Q xs (code_faults (kept xs) c (coarsen_end xs c))
 
 -- "Across: 10, 11, 1 to 4, 5, 12"
 pub record Crossed (xs : List ℕ) (c s : ℕ) (a : Crossing) : Type 0 where
@@ -96,36 +96,36 @@ pub record Crossed (xs : List ℕ) (c s : ℕ) (a : Crossing) : Type 0 where
   pub side : MetIs (leaves xs) c s met
   pub is : a ≡ crossing met
 
-abbrev pub acrossEnd : List ℕ → ℕ → ℕ → Crossing → Type 0
-acrossEnd xs c s = need (s < 3) (notCrossed DIRECTION) (need (Leaf (leaves xs) c) (notCrossed NOT-LEAF) (Crossed xs c s))
+abbrev pub across_end : List ℕ → ℕ → ℕ → Crossing → Type 0
+across_end xs c s = need (s < 3) (not_crossed DIRECTION) (need (Leaf (leaves xs) c) (not_crossed NOT_LEAF) (Crossed xs c s))
 
 abbrev pub AcrossOf : ℕ → List ℕ → ℕ → ℕ → Crossing → Type 0
-AcrossOf Q xs c s = meshFaults notCrossed Q xs (codeFaults notCrossed c (acrossEnd xs c s))
+AcrossOf Q xs c s = mesh_faults not_crossed Q xs (code_faults not_crossed c (across_end xs c s))
 
 -- "Run: 10, 11, 1 to 4"; "the part of the lent slice holding the leaves equal to or inside that cell [..]. When the number is
 -- 0, or anything is refused, the part is the empty one at the start": a run starts after the leaves that come before its cell
-abbrev pub comeBefore : ℕ → List ℕ → ℕ
-comeBefore c [] = 0
-comeBefore c (x ∷ L) = cond (ltb x c) (1 + comeBefore c L) 0
+abbrev pub come_before : ℕ → List ℕ → ℕ
+come_before c [] = 0
+come_before c (x ∷ L) = cond (ltb x c) (1 + come_before c L) 0
 
 abbrev pub start_of : ℕ → List ℕ → ℕ
-start_of c L = cond (eqb (length (under c L)) 0) 0 (comeBefore c L)
+start_of c L = cond (eqb (length (under c L)) 0) 0 (come_before c L)
 
 pub record Bounded (xs : List ℕ) (c : ℕ) (p : Part) : Type 0 where
   pub is : p ≡ part (start_of c (leaves xs)) (length (under c (leaves xs)))
   pub holds : take p.count (drop p.start xs) ≡ under c (leaves xs)
 
-abbrev pub boundsEnd : List ℕ → ℕ → Part → Type 0
-boundsEnd = Bounded
+abbrev pub bounds_end : List ℕ → ℕ → Part → Type 0
+bounds_end = Bounded
 
 abbrev pub BoundsOf : ℕ → List ℕ → ℕ → Part → Type 0
-BoundsOf Q xs c = meshFaults noBounds Q xs (codeFaults noBounds c (boundsEnd xs c))
+BoundsOf Q xs c = mesh_faults no_bounds Q xs (code_faults no_bounds c (bounds_end xs c))
 
 abbrev pub none : ℕ → List ℕ
 none k = []
 
 abbrev pub RunOf : ℕ → List ℕ → ℕ → List ℕ → Type 0
-RunOf Q xs c = meshFaults none Q xs (codeFaults none c (λ ys. ys ≡ under c (leaves xs)))
+RunOf Q xs c = mesh_faults none Q xs (code_faults none c (λ ys. ys ≡ under c (leaves xs)))
 
 abbrev pub CountOf : ℕ → List ℕ → ℕ → Reply → Type 0
-CountOf Q xs c = meshFaults refused Q xs (codeFaults refused c (λ r. r ≡ done (length (under c (leaves xs)))))
+CountOf Q xs c = mesh_faults refused Q xs (code_faults refused c (λ r. r ≡ done (length (under c (leaves xs)))))

@@ -14,6 +14,6 @@ use Rattle.mesh.specs.Calls.{Freshened, Refined, Coarsened}
 pub data Reach : ℕ → ℕ → List ℕ → Type 0 where
   start : (S Q : ℕ) {xs : List ℕ} {o : Outcome} → FaceSet S Q → Freshened S Q xs o → o.reply.number ≡ 0 → Reach S Q o.slots
   anew : {S Q : ℕ} (S' Q' : ℕ) {xs : List ℕ} {o : Outcome} → Reach S Q xs → FaceSet S' Q' → Freshened S' Q' xs o → o.reply.number ≡ 0 → Reach S' Q' o.slots
-  not-anew : {S Q : ℕ} (S' Q' : ℕ) {xs : List ℕ} {o : Outcome} → Reach S Q xs → Freshened S' Q' xs o → o.reply.number ≢ 0 → Reach S Q o.slots
+  not_anew : {S Q : ℕ} (S' Q' : ℕ) {xs : List ℕ} {o : Outcome} → Reach S Q xs → Freshened S' Q' xs o → o.reply.number ≢ 0 → Reach S Q o.slots
   refine : {S Q : ℕ} (Q' c : ℕ) {xs : List ℕ} {o : Outcome} → Reach S Q xs → Refined Q' xs c o → Reach S Q o.slots
   coarsen : {S Q : ℕ} (Q' c : ℕ) {xs : List ℕ} {o : Outcome} → Reach S Q xs → Coarsened Q' xs c o → Reach S Q o.slots

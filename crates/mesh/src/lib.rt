@@ -5,15 +5,15 @@
 ghost use Rattle.std.specs.Prelude.{Bool, List, ◌≡◌, ℕ, ◌+◌, ◌-◌, ◌<◌, ◌≤◌, get_or};
 ghost use Rattle.refusals.specs.Refusals.{Single};
 ghost use Rattle.refusals.specs.Answers.{Tells};
-ghost use Rattle.codes.specs.Codes.{depth, Code, codeFaults};
-ghost use Rattle.codes.specs.Places.{childCode};
-ghost use Rattle.soundness.specs.Regions.{allFaces};
+ghost use Rattle.codes.specs.Codes.{depth, Code, code_faults};
+ghost use Rattle.codes.specs.Places.{child_code};
+ghost use Rattle.soundness.specs.Regions.{all_faces};
 ghost use Rattle.soundness.specs.Leaves.{Leaf, leaves};
 ghost use Rattle.soundness.specs.Soundness.{Sound, SoundIn};
 ghost use Rattle.soundness.specs.Sides.{OneOrTwo};
 ghost use Rattle.examine.specs.Examined.{whole_of};
-ghost use Rattle.mesh.specs.Answers.{outcome, told, changeReply, acrossReply, notCrossed, boundsReply, noBounds, countReply};
-ghost use Rattle.mesh.specs.Calls.{kept, Held, Freshened, refineEnd, refineLeafEnd, Refined, coarsenEnd, coarsenLeavesEnd, Coarsened, acrossEnd, AcrossOf, boundsEnd, BoundsOf, RunOf, CountOf};
+ghost use Rattle.mesh.specs.Answers.{outcome, told, change_reply, across_reply, not_crossed, bounds_reply, no_bounds, count_reply};
+ghost use Rattle.mesh.specs.Calls.{kept, Held, Freshened, refine_end, refine_leaf_end, Refined, coarsen_end, coarsen_leaves_end, Coarsened, across_end, AcrossOf, bounds_end, BoundsOf, RunOf, CountOf};
 ghost use Rattle.mesh.specs.Series.{Reach};
 
 use examine::Seen;
@@ -35,7 +35,7 @@ pub struct Told {
 }
 
 pub fn in_parts(change: Change) -> Told
-    ensures { told result.number result.value ≡ changeReply change }
+    ensures { told result.number result.value ≡ change_reply change }
 {
     match change {
         Change::Made => Told {
@@ -92,7 +92,7 @@ pub fn sound(slots: &[u64]) -> bool
 
 // The faces of a solid in order, and zeros after them, whatever stood there.
 pub fn fresh(slots: &mut [u64], solid: u64) -> Change
-    ensures { Freshened solid (allFaces solid) slots.old (outcome (changeReply result) slots.new) }
+    ensures { Freshened solid (all_faces solid) slots.old (outcome (change_reply result) slots.new) }
 {
     if examine::SLOTS < slots.len() {
         return Change::Refused(refusals::BUFFER);
@@ -114,7 +114,7 @@ pub fn fresh(slots: &mut [u64], solid: u64) -> Change
 // The leaf at a slot becomes its four children, unless it is too deep, a larger leaf stands in the way, or there is no room.
 fn refine_leaf(slots: &mut [u64], n: usize, at: usize, leaf: u64) -> Change
     requires { Held slots.old n × (at < n) × (get_or slots.old at 0 ≡ leaf) × Code leaf }
-    ensures { refineLeafEnd slots.old leaf (outcome (changeReply result) slots.new) }
+    ensures { refine_leaf_end slots.old leaf (outcome (change_reply result) slots.new) }
 {
     if 25 < codes::depth_of(leaf) {
         return Change::Refused(refusals::DEEP);
@@ -132,7 +132,7 @@ fn refine_leaf(slots: &mut [u64], n: usize, at: usize, leaf: u64) -> Change
 
 fn refine_sound(slots: &mut [u64], n: usize, leaf: u64) -> Change
     requires { Held slots.old n }
-    ensures { codeFaults (kept slots.old) leaf (refineEnd slots.old leaf) (outcome (changeReply result) slots.new) }
+    ensures { code_faults (kept slots.old) leaf (refine_end slots.old leaf) (outcome (change_reply result) slots.new) }
 {
     let k = codes::check(leaf);
     if k != 0 {
@@ -146,7 +146,7 @@ fn refine_sound(slots: &mut [u64], n: usize, leaf: u64) -> Change
 
 // A leaf becomes its four children.
 pub fn refine(slots: &mut [u64], leaf: u64) -> Change
-    ensures { Refined (whole_of slots.old) slots.old leaf (outcome (changeReply result) slots.new) }
+    ensures { Refined (whole_of slots.old) slots.old leaf (outcome (change_reply result) slots.new) }
 {
     match examine::examine(slots) {
         Seen::Long => Change::Refused(refusals::BUFFER),
@@ -157,8 +157,8 @@ pub fn refine(slots: &mut [u64], leaf: u64) -> Change
 
 // The four children of a cell, which stand from a slot on, become the cell, unless a smaller leaf stands in the way.
 fn coarsen_leaves(slots: &mut [u64], n: usize, at: usize, cell: u64) -> Change
-    requires { Held slots.old n × (at + 4 ≤ n) × ((q : ℕ) → q < 4 → get_or slots.old (at + q) 0 ≡ childCode cell q) × Code cell × (depth cell < 26) }
-    ensures { coarsenLeavesEnd slots.old cell (outcome (changeReply result) slots.new) }
+    requires { Held slots.old n × (at + 4 ≤ n) × ((q : ℕ) → q < 4 → get_or slots.old (at + q) 0 ≡ child_code cell q) × Code cell × (depth cell < 26) }
+    ensures { coarsen_leaves_end slots.old cell (outcome (change_reply result) slots.new) }
 {
     let blocker = sides::coarsen_blocker(slots, n, faces_in(slots), cell);
     if blocker != 0 {
@@ -170,7 +170,7 @@ fn coarsen_leaves(slots: &mut [u64], n: usize, at: usize, cell: u64) -> Change
 
 fn coarsen_sound(slots: &mut [u64], n: usize, cell: u64) -> Change
     requires { Held slots.old n }
-    ensures { codeFaults (kept slots.old) cell (coarsenEnd slots.old cell) (outcome (changeReply result) slots.new) }
+    ensures { code_faults (kept slots.old) cell (coarsen_end slots.old cell) (outcome (change_reply result) slots.new) }
 {
     let k = codes::check(cell);
     if k != 0 {
@@ -187,7 +187,7 @@ fn coarsen_sound(slots: &mut [u64], n: usize, cell: u64) -> Change
 
 // The four children of a cell become that one leaf.
 pub fn coarsen(slots: &mut [u64], cell: u64) -> Change
-    ensures { Coarsened (whole_of slots.old) slots.old cell (outcome (changeReply result) slots.new) }
+    ensures { Coarsened (whole_of slots.old) slots.old cell (outcome (change_reply result) slots.new) }
 {
     match examine::examine(slots) {
         Seen::Long => Change::Refused(refusals::BUFFER),
@@ -198,7 +198,7 @@ pub fn coarsen(slots: &mut [u64], cell: u64) -> Change
 
 fn across_sound(slots: &[u64], n: usize, leaf: u64, direction: u64) -> Facing
     requires { Held slots.now n }
-    ensures { codeFaults notCrossed leaf (acrossEnd slots.now leaf direction) (acrossReply result) }
+    ensures { code_faults not_crossed leaf (across_end slots.now leaf direction) (across_reply result) }
 {
     let k = codes::check(leaf);
     if k != 0 {
@@ -221,7 +221,7 @@ fn across_sound(slots: &[u64], n: usize, leaf: u64, direction: u64) -> Facing
 
 // What lies across a side of a leaf.
 pub fn across(slots: &[u64], leaf: u64, direction: u64) -> Facing
-    ensures { AcrossOf (whole_of slots.now) slots.now leaf direction (acrossReply result) }
+    ensures { AcrossOf (whole_of slots.now) slots.now leaf direction (across_reply result) }
 {
     match examine::examine(slots) {
         Seen::Long => Facing::Refused(refusals::BUFFER),
@@ -232,7 +232,7 @@ pub fn across(slots: &[u64], leaf: u64, direction: u64) -> Facing
 
 fn bounds_sound(slots: &[u64], n: usize, cell: u64) -> Extent
     requires { Held slots.now n }
-    ensures { codeFaults noBounds cell (boundsEnd slots.now cell) (boundsReply result) }
+    ensures { code_faults no_bounds cell (bounds_end slots.now cell) (bounds_reply result) }
 {
     let k = codes::check(cell);
     if k != 0 {
@@ -249,7 +249,7 @@ fn bounds_sound(slots: &[u64], n: usize, cell: u64) -> Extent
 
 // Where the run of leaves under a cell starts, and how many they are; the empty run starts at 0.
 pub fn bounds(slots: &[u64], cell: u64) -> Extent
-    ensures { BoundsOf (whole_of slots.now) slots.now cell (boundsReply result) }
+    ensures { BoundsOf (whole_of slots.now) slots.now cell (bounds_reply result) }
 {
     match examine::examine(slots) {
         Seen::Long => Extent::Refused(refusals::BUFFER),
@@ -270,7 +270,7 @@ pub fn run(slots: &[u64], cell: u64) -> &[u64]
 
 // How many leaves that part has.
 pub fn count(slots: &[u64], cell: u64) -> Counted
-    ensures { CountOf (whole_of slots.now) slots.now cell (countReply result) }
+    ensures { CountOf (whole_of slots.now) slots.now cell (count_reply result) }
 {
     match bounds(slots, cell) {
         Extent::Part(_, count) => Counted::Leaves(count),
@@ -296,5 +296,5 @@ pub fn each_call_on_a_mesh_has_one_answer()
 // solid each side of each leaf then meets one leaf, equal or larger, or exactly two smaller.
 pub fn any_series_of_calls_leaves_a_sound_mesh()
     ensures by_index { (S Q : ℕ) (xs : List ℕ) → Reach S Q xs → Sound S Q xs }
-    ensures by_index_2 { (S : ℕ) (xs : List ℕ) → Reach S (allFaces S) xs → (a s : ℕ) → Leaf (leaves xs) a → s < 3 → OneOrTwo (leaves xs) a s }
+    ensures by_index_2 { (S : ℕ) (xs : List ℕ) → Reach S (all_faces S) xs → (a s : ℕ) → Leaf (leaves xs) a → s < 3 → OneOrTwo (leaves xs) a s }
 {}

@@ -1,20 +1,20 @@
 -- Points of a face, the way down to the cell that is located, and what it means that a cell holds a point.
 --
---   Weights          == three weights, at the tip, the left and the right corner of a triangle
---   sum w            == their sum; 2^26 for the weights of a point
---   lower w          == one level down: the digit that is chosen, and the weights in that child
---   down w n         == the weights n levels down
---   pathTo w n       == the digits that were chosen on the way, the last digit first
---   weighed w P v    == what the triangle P, taken by the weights w, weighs at vertex v
+--   Weights           == three weights, at the tip, the left and the right corner of a triangle
+--   sum w             == their sum; 2^26 for the weights of a point
+--   lower w           == one level down: the digit that is chosen, and the weights in that child
+--   down w n          == the weights n levels down
+--   path_to w n       == the digits that were chosen on the way, the last digit first
+--   weighed w P v     == what the triangle P, taken by the weights w, weighs at vertex v
 --   point_of so f w v == what the point of face f and weights w weighs at vertex v: the point itself, whichever face names it
---   Holds c X        == the closed triangle of c holds the point X
+--   Holds c X         == the closed triangle of c holds the point X
 --
 -- Assumes nothing.
 use Rattle.std.specs.Prelude.{cond, List, [], ◌∷◌, ◌≡◌, ℕ, zero, suc, ◌+◌, ◌-◌, ◌*◌, ◌/◌, leb, get_or}
 use Rattle.solids.specs.Triangles.{tip, lft, rgt}
 use Rattle.solids.specs.Solids.{Solid}
 use Rattle.geometry.specs.Corners.{Digit, d00, d01, d10, d11, Triangle}
-use Rattle.geometry.specs.Cells.{Cell, faceCorners, corner}
+use Rattle.geometry.specs.Cells.{Cell, face_corners, corner}
 
 -- "A point is a solid, a face and three weights (t, l, r) that sum to 2^26."
 pub record Weights : Type 0 where
@@ -53,15 +53,15 @@ unfoldable pub down : Weights → ℕ → Weights
 down w zero = w
 down w (suc n) = (lower (down w n)).rest
 
-unfoldable pub pathTo : Weights → ℕ → List Digit
-pathTo w zero = []
-pathTo w (suc n) = (lower (down w n)).digit ∷ pathTo w n
+unfoldable pub path_to : Weights → ℕ → List Digit
+path_to w zero = []
+path_to w (suc n) = (lower (down w n)).digit ∷ path_to w n
 
 abbrev pub weighed : Weights → Triangle → ℕ → ℕ
 weighed w P v = w.t * get_or (P tip) v 0 + w.l * get_or (P lft) v 0 + w.r * get_or (P rgt) v 0
 
 abbrev pub point_of : Solid → ℕ → Weights → ℕ → ℕ
-point_of so f w v = weighed w (faceCorners so f) v
+point_of so f w v = weighed w (face_corners so f) v
 
 -- the point is the cell's corners taken by whole weights, none of them negative
 pub record Holds (c : Cell) (X : ℕ → ℕ) : Type 0 where

@@ -1,11 +1,11 @@
 // Locating a point of a face at a depth.
 
 ghost use Rattle.std.specs.Prelude.{◌≡◌, ℕ, ◌+◌, ◌^◌, ◌≤◌};
-ghost use Rattle.solids.specs.Solids.{solidOf};
+ghost use Rattle.solids.specs.Solids.{solid_of};
 ghost use Rattle.refusals.specs.Refusals.{Single};
 ghost use Rattle.refusals.specs.Answers.{done, reply, Tells};
-ghost use Rattle.geometry.specs.Paths.{digitNo, number};
-ghost use Rattle.points.specs.Points.{weights, lower, pathTo, point_of};
+ghost use Rattle.geometry.specs.Paths.{digit_no, number};
+ghost use Rattle.points.specs.Points.{weights, lower, path_to, point_of};
 ghost use Rattle.points.specs.Located.{Located, Least};
 
 use refusals::Answer;
@@ -44,7 +44,7 @@ fn sums_to_whole(t: u64, l: u64, r: u64) -> bool
 // One level down.
 fn lower(t: u64, l: u64, r: u64) -> Lowered
     requires { t + l + r ≤ 2 ^ 26 }
-    ensures digit { result.digit ≡ digitNo (lower (weights t l r)).digit }
+    ensures digit { result.digit ≡ digit_no (lower (weights t l r)).digit }
     ensures rest { weights result.t result.l result.r ≡ (lower (weights t l r)).rest }
 {
     let h = (t + l + r) / 2;
@@ -83,7 +83,7 @@ fn lower(t: u64, l: u64, r: u64) -> Lowered
 // The path down to a depth, as a number with the last digit lowest.
 fn descend(t: u64, l: u64, r: u64, depth: u64) -> u64
     requires { (t + l + r ≡ 2 ^ 26) × (depth ≤ 26) }
-    ensures { result ≡ number (pathTo (weights t l r) depth) }
+    ensures { result ≡ number (path_to (weights t l r) depth) }
 {
     let mut a = t;
     let mut b = l;
@@ -125,5 +125,5 @@ pub fn locating_has_one_answer()
 
 // The cell that is located holds the point, and its code is the least of that face and depth that does.
 pub fn the_cell_located_is_the_least_that_holds_the_point()
-    ensures { (s f t l r d x : ℕ) → Located s f t l r d (done x) → Least s f d (point_of (solidOf s) f (weights t l r)) x }
+    ensures { (s f t l r d x : ℕ) → Located s f t l r d (done x) → Least s f d (point_of (solid_of s) f (weights t l r)) x }
 {}

@@ -8,14 +8,14 @@ use Rattle.refusals.specs.Refusals.{need, Single}
 use Rattle.refusals.specs.Answers.{Tells}
 
 -- the end may use what was asked for
-pub need-single : {A : Type 0} {P : Type 0} {out : A} {rest : A → Type 0} → (P → Single rest) → Single (need P out rest)
-need-single h a b (inl p) (inl q) = p.1 ∙ sym q.1
-need-single h a b (inl p) (inr q) = absurd (p.0 q.0)
-need-single h a b (inr p) (inl q) = absurd (q.0 p.0)
-need-single h a b (inr p) (inr q) = h p.0 a b p.1 q.1
+pub need_single : {A : Type 0} {P : Type 0} {out : A} {rest : A → Type 0} → (P → Single rest) → Single (need P out rest)
+need_single h a b (inl p) (inl q) = p.1 ∙ sym q.1
+need_single h a b (inl p) (inr q) = absurd (p.0 q.0)
+need_single h a b (inr p) (inl q) = absurd (q.0 p.0)
+need_single h a b (inr p) (inr q) = h p.0 a b p.1 q.1
 
-pub is-single : {A : Type 0} {v : A} → Single (λ (a : A). a ≡ v)
-is-single a b p q = p ∙ sym q
+pub is_single : {A : Type 0} {v : A} → Single (λ (a : A). a ≡ v)
+is_single a b p q = p ∙ sym q
 
 pub met : {A : Type 0} {P X : Type 0} {a out : A} → (a ≡ out → ⊥) → ((P → ⊥) × (a ≡ out)) ⊎ (P × X) → P × X
 met h (inl x) = absurd (h x.1)
@@ -33,5 +33,5 @@ ask {P = P} {out = out} {rest = rest} b t r = record { answer = cond b r.answer 
     go true t = inr (t.yes refl, r.meets)
     go false t = inl (t.no refl, refl)
 
-unfoldable pub answer-is : {A : Type 0} (v : A) → Answered (λ (a : A). a ≡ v)
-answer-is v = record { answer = v; meets = refl }
+unfoldable pub answer_is : {A : Type 0} (v : A) → Answered (λ (a : A). a ≡ v)
+answer_is v = record { answer = v; meets = refl }

@@ -54,12 +54,12 @@ abbrev pub MESH : ℕ
 MESH = 11
 
 -- well-formed code, no leaf of this mesh
-abbrev pub NOT-LEAF : ℕ
-NOT-LEAF = 12
+abbrev pub NOT_LEAF : ℕ
+NOT_LEAF = 12
 
 -- some child of the cell is no leaf here
-abbrev pub NOT-FOUR : ℕ
-NOT-FOUR = 13
+abbrev pub NOT_FOUR : ℕ
+NOT_FOUR = 13
 
 -- the value is the least blocking leaf
 abbrev pub BLOCKED : ℕ

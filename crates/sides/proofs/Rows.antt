@@ -2,8 +2,8 @@
 --
 --   Seen L small A i s b == b is in the way by a side before side s of the leaf i of A
 --   seen_none, seen_more == before the first side; one side more
---   seen-row, seen_all   == a leaf done, all leaves done
---   first-least          == no leaf is less than the first
+--   seen_row, seen_all   == a leaf done, all leaves done
+--   first_least          == no leaf is less than the first
 --
 -- Assumes nothing.
 use mathlib.Core.Bool.{Bool}
@@ -15,11 +15,11 @@ use native.Mathlib.Omega.{arith}
 use lib.ListN.{length, get_or, take}
 use lib.Seq.{get_or-take, length-take-le}
 use Rattle.soundness.specs.Leaves.{Leaf}
-use Rattle.soundness.proofs.Cells.{le-or-lt}
-use Rattle.soundness.proofs.Leaves.{leaf-at, at_leaf, asc-le}
+use Rattle.soundness.proofs.Cells.{le_or_lt}
+use Rattle.soundness.proofs.Leaves.{leaf_at, at_leaf, asc_le}
 use Rattle.sides.specs.Sides.{InMesh, AllIn, Stands, InTheWay, Lower, Blocker}
-use Rattle.sides.proofs.Least.{blocker-none, blocker-is, blocker-same, blocker-either}
-use Rattle.sides.proofs.Candidates.{code-pos}
+use Rattle.sides.proofs.Least.{blocker_none, blocker_is, blocker_same, blocker_either}
+use Rattle.sides.proofs.Candidates.{code_pos}
 
 pub record Seen (L : List ℕ) (small : Bool) (A : List ℕ) (i s b : ℕ) : Type 0 where
   pub at : ℕ
@@ -33,7 +33,7 @@ all_in L Q A i M h = record { solid = M.solid; mesh = M.mesh; leaf = M.leaf i h 
 
 module _ (L : List ℕ) (small : Bool) (A : List ℕ) where
   pub seen_none : Blocker (Seen L small A 0 0) 0
-  seen_none = blocker-none _ (λ x p. ⊎_elim (λ h. omega arith) (λ h. omega (arith, h.1)) p.before)
+  seen_none = blocker_none _ (λ x p. ⊎_elim (λ h. omega arith) (λ h. omega (arith, h.1)) p.before)
 
   one_more : (i s x : ℕ) → Seen L small A i (s + 1) x → Seen L small A i s x ⊎ Stands L small (get_or A i 0) s x
   one_more i s x p =
@@ -44,13 +44,13 @@ module _ (L : List ℕ) (small : Bool) (A : List ℕ) where
       let e : p.side ≡ s = omega (arith, h.1) in
       inr (subst (λ (t : ℕ). Stands L small (get_or A i 0) t x) e (subst (λ (j : ℕ). Stands L small (get_or A j 0) p.side x) h.0 p.stands)))
       (λ (k : p.side < s). inl (record { at = p.at; side = p.side; low = p.low; before = inr (h.0, k); stands = p.stands }))
-      (le-or-lt s p.side))
+      (le_or_lt s p.side))
       p.before
 
   pub seen_more : (i s a b r : ℕ) → s < 3 → Blocker (Seen L small A i s) a → Blocker (Stands L small (get_or A i 0) s) b → Lower a b r →
       Blocker (Seen L small A i (s + 1)) r
   seen_more i s a b r l =
-      blocker-either (Seen L small A i s) (Stands L small (get_or A i 0) s) (Seen L small A i (s + 1)) a b r
+      blocker_either (Seen L small A i s) (Stands L small (get_or A i 0) s) (Seen L small A i (s + 1)) a b r
       (λ x p. record {
         at = p.at;
         side = p.side;
@@ -61,9 +61,9 @@ module _ (L : List ℕ) (small : Bool) (A : List ℕ) where
       (λ x q. record { at = i; side = s; low = l; before = inr (refl, omega arith); stands = q })
       (one_more i s)
 
-  pub seen-row : (i s r : ℕ) → 3 ≤ s → Blocker (Seen L small A i s) r → Blocker (Seen L small A (i + 1) 0) r
-  seen-row i s r h =
-      blocker-same (Seen L small A i s) (Seen L small A (i + 1) 0) r
+  pub seen_row : (i s r : ℕ) → 3 ≤ s → Blocker (Seen L small A i s) r → Blocker (Seen L small A (i + 1) 0) r
+  seen_row i s r h =
+      blocker_same (Seen L small A i s) (Seen L small A (i + 1) 0) r
       (λ x p. record {
         at = p.at;
         side = p.side;
@@ -74,12 +74,12 @@ module _ (L : List ℕ) (small : Bool) (A : List ℕ) where
       (λ x p. record { at = p.at; side = p.side; low = p.low; before = earlier p.at p.side p.low p.before; stands = p.stands })
     where
       earlier : (at side : ℕ) → side < 3 → (at < i + 1) ⊎ ((at ≡ i + 1) × (side < 0)) → (at < i) ⊎ ((at ≡ i) × (side < s))
-      earlier at side l (inl k) = ⊎_elim (λ (m : i ≤ at). inr (omega arith, omega arith)) (λ (m : at < i). inl m) (le-or-lt i at)
+      earlier at side l (inl k) = ⊎_elim (λ (m : i ≤ at). inr (omega arith, omega arith)) (λ (m : at < i). inl m) (le_or_lt i at)
       earlier at side l (inr k) = absurd (omega (arith, k.1))
 
   pub seen_all : (i r : ℕ) → i ≤ length A → length A ≤ i → Blocker (Seen L small A i 0) r → Blocker (InTheWay L small A) r
   seen_all i r l h =
-      blocker-same (Seen L small A i 0) (InTheWay L small A) r
+      blocker_same (Seen L small A i 0) (InTheWay L small A) r
       (λ x p. record {
         at = p.at;
         within = ⊎_elim (λ k. omega arith) (λ k. absurd (omega (arith, k.1))) p.before;
@@ -93,22 +93,22 @@ module _ (xs : List ℕ) (n Q : ℕ) (small : Bool) (A : List ℕ) (h : n ≤ le
   all : length (take n xs) ≡ n
   all = length-take-le n xs h
 
-  pub some-leaf : 0 < n
-  some-leaf = omega (arith, M.mesh.some, all)
+  pub some_leaf : 0 < n
+  some_leaf = omega (arith, M.mesh.some, all)
 
   front : get_or (take n xs) 0 0 ≡ get_or xs 0 0
-  front = get_or-take n xs 0 0 some-leaf
+  front = get_or-take n xs 0 0 some_leaf
 
-  front-least : (x : ℕ) → Leaf (take n xs) x → get_or xs 0 0 ≤ x
-  front-least x m =
+  front_least : (x : ℕ) → Leaf (take n xs) x → get_or xs 0 0 ≤ x
+  front_least x m =
       let r = at_leaf (take n xs) x m in
-      omega (arith, front, r.is, asc-le (take n xs) M.mesh.covers.ascend 0 r.at (omega arith) r.low)
+      omega (arith, front, r.is, asc_le (take n xs) M.mesh.covers.ascend 0 r.at (omega arith) r.low)
 
-  pub first-least : (i s b : ℕ) → i < length A → s < 3 → b ≡ get_or xs 0 0 → Blocker (Stands (take n xs) small (get_or A i 0) s) b →
+  pub first_least : (i s b : ℕ) → i < length A → s < 3 → b ≡ get_or xs 0 0 → Blocker (Stands (take n xs) small (get_or A i 0) s) b →
       Blocker (InTheWay (take n xs) small A) b
-  first-least i s b l k e B =
-      let m = leaf-at (take n xs) 0 (omega (arith, M.mesh.some)) in
-      let p : 0 < b = omega (arith, front, code-pos M.solid _ (M.mesh.covers.cells _ m)) in
-      blocker-is _ b p
+  first_least i s b l k e B =
+      let m = leaf_at (take n xs) 0 (omega (arith, M.mesh.some)) in
+      let p : 0 < b = omega (arith, front, code_pos M.solid _ (M.mesh.covers.cells _ m)) in
+      blocker_is _ b p
       (record { at = i; within = l; side = s; low = k; stands = (B.least (λ z. omega arith)).is })
-      (λ x q. omega (arith, front-least x q.stands.leaf))
+      (λ x q. omega (arith, front_least x q.stands.leaf))

@@ -3,18 +3,18 @@
 --   InMesh L Q a         == L are the leaves of a sound mesh of the faces Q, and a is one of them
 --   AllIn L Q A          == the same, and all of A are among them
 --   FourIn L Q c         == the same, and the four children of the cell c are among them
---   smallerOf n s        == the children of the cell n, which lies across a side s, on its side back
+--   smaller_of n s       == the children of the cell n, which lies across a side s, on its side back
 --   Stands L small a s b == side s of the leaf a meets the leaf b, a larger one, or, where small says so, a smaller one
 --   InTheWay L small A b == b is such a leaf for some side of one of the leaves A
---   candidateOf small m  == of what a side meets the least such leaf, or 0
+--   candidate_of small m == of what a side meets the least such leaf, or 0
 --   Lower a b r          == r is the lesser of two leaves, where 0 stands for none
 --   Blocker P r          == r is the least number with P, or 0 where there is none
 --
 -- Assumes nothing.
 use Rattle.std.specs.Prelude.{Bool, true, false, cond, List, ◌⊎◌, ◌≡◌, ℕ, ◌<◌, ◌≤◌, length, get_or}
 use Rattle.codes.specs.Codes.{depth, Code}
-use Rattle.codes.specs.Places.{childCode}
-use Rattle.steps.specs.Edges.{backNo, first, second}
+use Rattle.codes.specs.Places.{child_code}
+use Rattle.steps.specs.Edges.{back_no, first, second}
 use Rattle.soundness.specs.Leaves.{Leaf}
 use Rattle.soundness.specs.Soundness.{Meets, Mesh}
 use Rattle.soundness.specs.Sides.{Some, LeastOf}
@@ -35,10 +35,10 @@ pub record FourIn (L : List ℕ) (Q c : ℕ) : Type 0 where
   pub solid : ℕ
   pub mesh : Mesh solid Q L
   pub code : Code c
-  pub four : (q : ℕ) → q < 4 → Leaf L (childCode c q)
+  pub four : (q : ℕ) → q < 4 → Leaf L (child_code c q)
 
-abbrev pub smallerOf : ℕ → ℕ → Met
-smallerOf n s = Smaller (childCode n (first (backNo s))) (childCode n (second (backNo s)))
+abbrev pub smaller_of : ℕ → ℕ → Met
+smaller_of n s = Smaller (child_code n (first (back_no s))) (child_code n (second (back_no s)))
 
 abbrev pub Deeper : Bool → ℕ → ℕ → Type 0
 Deeper false a b = depth b < depth a
@@ -56,11 +56,11 @@ pub record InTheWay (L : List ℕ) (small : Bool) (A : List ℕ) (b : ℕ) : Typ
   pub low : side < 3
   pub stands : Stands L small (get_or A at 0) side b
 
-abbrev pub candidateOf : Bool → Met → ℕ
-candidateOf small (Larger b) = cond small 0 b
-candidateOf small (Equal b) = 0
-candidateOf small (Smaller b c) = cond small b 0
-candidateOf small Open = 0
+abbrev pub candidate_of : Bool → Met → ℕ
+candidate_of small (Larger b) = cond small 0 b
+candidate_of small (Equal b) = 0
+candidate_of small (Smaller b c) = cond small b 0
+candidate_of small Open = 0
 
 pub record Lower (a b r : ℕ) : Type 0 where
   pub either : (r ≡ a) ⊎ (r ≡ b)

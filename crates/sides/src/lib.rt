@@ -4,14 +4,14 @@
 ghost use Rattle.std.specs.Prelude.{◌≡◌, ◌<◌, ◌≤◌, length, take};
 ghost use Rattle.codes.specs.Codes.{depth, Code};
 ghost use Rattle.soundness.specs.Sides.{MetIs, BlocksRefine, BlocksCoarsen};
-ghost use Rattle.sides.specs.Sides.{InMesh, smallerOf, AllIn, FourIn, candidateOf, Lower, InTheWay, Blocker};
+ghost use Rattle.sides.specs.Sides.{InMesh, smaller_of, AllIn, FourIn, candidate_of, Lower, InTheWay, Blocker};
 
 use soundness::Met;
 
 // The two smaller leaves across a side: the children, on the side back, of the cell across.
 fn smaller(across: u64, side: u64) -> Met
     requires { Code across × (depth across < 26) × (side < 3) }
-    ensures { result ≡ smallerOf across side }
+    ensures { result ≡ smaller_of across side }
 {
     match side {
         0 => Met::Smaller(codes::child_of(across, 0), codes::child_of(across, 3)),
@@ -45,7 +45,7 @@ pub fn side_of(slots: &[u64], n: usize, faces: u64, leaf: u64, side: u64) -> Met
 // The least leaf of those a side meets that is in the way: a larger one in the way of a refine, a smaller one in the way of a
 // coarsen; 0 if none is.
 fn candidate(met: Met, smaller: bool) -> u64
-    ensures { result ≡ candidateOf smaller met }
+    ensures { result ≡ candidate_of smaller met }
 {
     match met {
         Met::Larger(b) => if smaller { 0 } else { b },

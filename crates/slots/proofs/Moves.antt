@@ -4,30 +4,30 @@ use Rattle.std.proofs.Common.{◌≡◌, ℕ, suc, ◌+◌, ◌-◌, ◌<◌, �
 use native.Mathlib.Numerals.{add-two, add-three}
 use lib.ListN.{get_or-append}
 use lib.Seq.{set_at, sets, sets-eq, take-append-le, drop-append-add}
-use Rattle.slots.specs.Slots.{opened, splitAt, closed, joinAt}
+use Rattle.slots.specs.Slots.{opened, split_slot, closed, join_at}
 
 -- up three, the last first: those from k on have been moved
 module _ (xs : List ℕ) (n : ℕ) (room : n + 3 ≤ length xs) where
-  pub opened-none : xs ≡ opened xs n n
-  opened-none =
+  pub opened_none : xs ≡ opened xs n n
+  opened_none =
       let e : n - n ≡ 0 = omega arith in
       sym (ap (λ (k : ℕ). take (n + 3) xs ++ (take k (drop n xs) ++ drop (n + 3) xs)) e ∙ take-append-drop (n + 3) xs)
 
   module _ (k : ℕ) (more : k < n) where
     -- the slot that is next has not changed
-    opened-at : get_or (opened xs (suc k) n) k 0 ≡ get_or xs k 0
-    opened-at =
+    opened_at : get_or (opened xs (suc k) n) k 0 ≡ get_or xs k 0
+    opened_at =
         let l : length (take (suc k + 3) xs) ≡ suc k + 3 = length-take-le (suc k + 3) xs (omega arith) in
         get_or-append (take (suc k + 3) xs) _ 0 k (omega arith) ∙ get_or-take (suc k + 3) xs k 0 (omega arith)
 
-    pub opened-more : set (opened xs (suc k) n) (k + 3) (get_or (opened xs (suc k) n) k 0) ≡ opened xs k n
-    opened-more =
+    pub opened_more : set (opened xs (suc k) n) (k + 3) (get_or (opened xs (suc k) n) k 0) ≡ opened xs k n
+    opened_more =
         let front : List ℕ = take (k + 3) xs in
         let back : List ℕ = take (n - suc k) (drop (suc k) xs) ++ drop (n + 3) xs in
         let x : ℕ = get_or xs k 0 in
         let e : suc k + 3 ≡ suc (k + 3) = omega arith in
         let f : n - k ≡ suc (n - suc k) = omega arith in
-        ap (λ (y : ℕ). set (opened xs (suc k) n) (k + 3) y) opened-at
+        ap (λ (y : ℕ). set (opened xs (suc k) n) (k + 3) y) opened_at
         ∙ ap (λ (i : ℕ). set (take i xs ++ back) (k + 3) x) e
         ∙ ap (λ (t : List ℕ). set (t ++ back) (k + 3) x) (take-suc xs (k + 3) 0 (omega arith))
         ∙ ap (λ (t : List ℕ). set t (k + 3) x) (append_assoc front (get_or xs (k + 3) 0 ∷ []) back)
@@ -64,8 +64,8 @@ module _ (xs : List ℕ) (at : ℕ) where
         ∙ get_or-append-add moved (drop k xs) 3 0
         ∙ get_or-drop k xs 3 0
 
-    pub closed-more : set (closed xs at k) k (get_or (closed xs at k) (k + 3) 0) ≡ closed xs at (k + 1)
-    closed-more =
+    pub closed_more : set (closed xs at k) k (get_or (closed xs at k) (k + 3) 0) ≡ closed xs at (k + 1)
+    closed_more =
         let y : ℕ = get_or xs (k + 3) 0 in
         let part : List ℕ = drop (at + 3) xs in
         let e : at + 3 + (k - at) ≡ k + 3 = omega arith in
@@ -86,25 +86,25 @@ module _ (l : List ℕ) (i : ℕ) where
   stores : (vs : List ℕ) → i + length vs ≤ length l → sets l i vs ≡ take i l ++ (vs ++ drop (i + length vs) l)
   stores vs h = sets-eq vs l i h ∙ append_assoc (take i l) vs (drop (i + length vs) l)
 
-  three-stores : (a b c : ℕ) → i + 3 ≤ length l → set (set (set l i a) (i + 1) b) (i + 2) c ≡ take i l ++ (a ∷ b ∷ c ∷ drop (i + 3) l)
-  three-stores a b c h = rw (add-one, add-two) (stores (a ∷ b ∷ c ∷ []) h)
+  three_stores : (a b c : ℕ) → i + 3 ≤ length l → set (set (set l i a) (i + 1) b) (i + 2) c ≡ take i l ++ (a ∷ b ∷ c ∷ drop (i + 3) l)
+  three_stores a b c h = rw (add-one, add-two) (stores (a ∷ b ∷ c ∷ []) h)
 
-  four-stores : (a b c d : ℕ) → i + 4 ≤ length l →
+  four_stores : (a b c d : ℕ) → i + 4 ≤ length l →
       set (set (set (set l i a) (i + 1) b) (i + 2) c) (i + 3) d ≡ take i l ++ (a ∷ b ∷ c ∷ d ∷ drop (i + 4) l)
-  four-stores a b c d h = rw (add-one, add-two, add-three) (stores (a ∷ b ∷ c ∷ d ∷ []) h)
+  four_stores a b c d h = rw (add-one, add-two, add-three) (stores (a ∷ b ∷ c ∷ d ∷ []) h)
 
 -- room for three more, filled by four stores
 module _ (xs : List ℕ) (at n : ℕ) (here : at < n) (room : n + 3 ≤ length xs) where
-  pub split-stores : (ys : List ℕ) (a b c d : ℕ) → length ys ≡ length xs → ys ≡ opened xs (at + 1) n →
-      set (set (set (set ys at a) (at + 1) b) (at + 2) c) (at + 3) d ≡ splitAt xs at n a b c d
-  split-stores ys a b c d l o =
+  pub split_stores : (ys : List ℕ) (a b c d : ℕ) → length ys ≡ length xs → ys ≡ opened xs (at + 1) n →
+      set (set (set (set ys at a) (at + 1) b) (at + 2) c) (at + 3) d ≡ split_slot xs at n a b c d
+  split_stores ys a b c d l o =
       let front : List ℕ = take (at + 1 + 3) xs in
       let back : List ℕ = take (n - (at + 1)) (drop (at + 1) xs) ++ drop (n + 3) xs in
       let f : length front ≡ at + 1 + 3 = length-take-le (at + 1 + 3) xs (omega arith) in
       let before : take at ys ≡ take at xs =
       ap (take at) o ∙ take-append-le at front back (omega arith) ∙ take-take at (at + 1 + 3) xs (omega arith) in
       let after : drop (at + 4) ys ≡ back = ap (drop (at + 4)) o ∙ drop_at front back (at + 4) (omega arith) in
-      four-stores ys at a b c d (omega arith) ∙ ap₂ (λ (s t : List ℕ). s ++ (a ∷ b ∷ c ∷ d ∷ t)) before after
+      four_stores ys at a b c d (omega arith) ∙ ap₂ (λ (s t : List ℕ). s ++ (a ∷ b ∷ c ∷ d ∷ t)) before after
 
 -- three taken away, one store in place of the fourth, and three stores that clear what is free
 module _ (xs : List ℕ) (at n : ℕ) (four : at + 4 ≤ n) (upto : n ≤ length xs) where
@@ -115,8 +115,8 @@ module _ (xs : List ℕ) (at n : ℕ) (four : at + 4 ≤ n) (upto : n ≤ length
     abbrev used : List ℕ
     used = take at xs ++ (code ∷ later)
 
-    used-length : length used ≡ n - 3
-    used-length =
+    used_length : length used ≡ n - 3
+    used_length =
         let a : length (take at xs) ≡ at = length-take-le at xs (omega arith) in
         let b : length later ≡ n - (at + 4) = length-take-le (n - (at + 4)) (drop (at + 4) xs) (omega (arith, length-drop (at + 4) xs)) in
         omega (arith, length-append (take at xs) (code ∷ later))
@@ -133,16 +133,16 @@ module _ (xs : List ℕ) (at n : ℕ) (four : at + 4 ≤ n) (upto : n ≤ length
         ∙ set_at (take at xs) (get_or xs at 0) rest code at (length-take-le at xs (omega arith))
         ∙ sym (append_assoc (take at xs) (code ∷ later) (drop (n - 3) xs))
 
-    pub join-stores : (ys : List ℕ) → length ys ≡ length xs → ys ≡ closed xs (at + 1) (n - 3) →
-        set (set (set (set ys at code) (n - 3) 0) (n - 3 + 1) 0) (n - 3 + 2) 0 ≡ joinAt xs at n code
-    join-stores ys l o =
+    pub join_stores : (ys : List ℕ) → length ys ≡ length xs → ys ≡ closed xs (at + 1) (n - 3) →
+        set (set (set (set ys at code) (n - 3) 0) (n - 3 + 1) 0) (n - 3 + 2) 0 ≡ join_at xs at n code
+    join_stores ys l o =
         let rest : List ℕ = drop (n - 3) xs in
         let put : set ys at code ≡ used ++ rest = ap (λ (t : List ℕ). set t at code) o ∙ one_store in
         let e : n - 3 + 3 ≡ n = omega arith in
-        let before : take (n - 3) (set ys at code) ≡ used = ap (take (n - 3)) put ∙ take_at used rest (n - 3) used-length in
+        let before : take (n - 3) (set ys at code) ≡ used = ap (take (n - 3)) put ∙ take_at used rest (n - 3) used_length in
         let after : drop (n - 3 + 3) (set ys at code) ≡ drop n xs =
-        ap (drop (n - 3 + 3)) put ∙ ap (λ (i : ℕ). drop (i + 3) (used ++ rest)) (sym used-length) ∙ drop-append-add used rest 3
+        ap (drop (n - 3 + 3)) put ∙ ap (λ (i : ℕ). drop (i + 3) (used ++ rest)) (sym used_length) ∙ drop-append-add used rest 3
         ∙ drop-drop 3 (n - 3) xs ∙ ap (λ (i : ℕ). drop i xs) e in
-        three-stores (set ys at code) (n - 3) 0 0 0 (omega (arith, length-set ys at code))
+        three_stores (set ys at code) (n - 3) 0 0 0 (omega (arith, length-set ys at code))
         ∙ ap₂ (λ (s t : List ℕ). s ++ (0 ∷ 0 ∷ 0 ∷ t)) before after
         ∙ append_assoc (take at xs) (code ∷ later) (0 ∷ 0 ∷ 0 ∷ drop n xs)

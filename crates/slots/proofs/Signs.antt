@@ -9,5 +9,5 @@ module _ (a b r : ℕ) (la : a < 2 ^ 63) (lb : b ≤ 2 ^ 63) (lr : r < 2 ^ 64) (
   by_sign (suc zero) s = inl (refl, omega arith)
   by_sign (suc (suc q)) s = absurd (omega arith)
 
-  pub less-told : Less a b (r / 2 ^ 63)
-  less-told = by_sign (r / 2 ^ 63) refl
+  pub less_told : Less a b (r / 2 ^ 63)
+  less_told = by_sign (r / 2 ^ 63) refl

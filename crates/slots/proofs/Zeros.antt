@@ -6,10 +6,10 @@ use lib.Bits.{bit_or, or_add_and, and_le_l, and_le_r}
 use lib.ListN.{get_or-replicate, length-replicate}
 use lib.Seq.{take-length, set_at}
 use Rattle.refusals.specs.Answers.{Tells}
-use Rattle.slots.specs.Slots.{ZerosFrom, clearedFrom}
+use Rattle.slots.specs.Slots.{ZerosFrom, cleared_from}
 
-or-none : (a b : ℕ) → bit_or a b ≡ 0 → (a ≡ 0) × (b ≡ 0)
-or-none a b e =
+or_none : (a b : ℕ) → bit_or a b ≡ 0 → (a ≡ 0) × (b ≡ 0)
+or_none a b e =
     let s = or_add_and a b in
     (omega (arith, and_le_r a b), omega (arith, and_le_l a b))
 
@@ -29,14 +29,14 @@ module _ (xs : List ℕ) where
       let e : length xs - i ≡ suc (length xs - suc i) = omega arith in
       ap (λ (k : ℕ). replicate {A = ℕ} k 0) e
 
-  pub zeros-all : (n : ℕ) → n ≤ length xs → ((i : ℕ) → i < length xs → n ≤ i → get_or xs i 0 ≡ 0) → ZerosFrom xs n
-  zeros-all n l z =
+  pub zeros_all : (n : ℕ) → n ≤ length xs → ((i : ℕ) → i < length xs → n ≤ i → get_or xs i 0 ≡ 0) → ZerosFrom xs n
+  zeros_all n l z =
       ext_get_or 0 (drop n xs) (replicate (length xs - n) 0) (length-drop n xs ∙ sym (length-replicate (length xs - n) 0))
       (λ i h. get_or-drop n xs i 0 ∙ z (n + i) (omega (arith, length-drop n xs)) (omega arith)
       ∙ sym (get_or-replicate (length xs - n) i 0 0 (omega (arith, length-drop n xs))))
 
-  pub zeros-at : (n i : ℕ) → n ≤ i → i < length xs → ZerosFrom xs n → get_or xs i 0 ≡ 0
-  zeros-at n i l h z =
+  pub zeros_at : (n i : ℕ) → n ≤ i → i < length xs → ZerosFrom xs n → get_or xs i 0 ≡ 0
+  zeros_at n i l h z =
       let e : i ≡ n + (i - n) = omega arith in
       ap (λ (k : ℕ). get_or xs k 0) e
       ∙ sym (get_or-drop n xs (i - n) 0)
@@ -44,25 +44,25 @@ module _ (xs : List ℕ) where
       ∙ get_or-replicate (length xs - n) (i - n) 0 0 (omega arith)
 
   module _ (n : ℕ) where
-    pub joined-none : Joined xs n n 0
-    joined-none = record { clear = λ e k h l. absurd (omega arith); none = λ z. refl }
+    pub joined_none : Joined xs n n 0
+    joined_none = record { clear = λ e k h l. absurd (omega arith); none = λ z. refl }
 
-    pub joined-more : (i x : ℕ) → n ≤ i → i < length xs → Joined xs n i x → Joined xs n (i + 1) (bit_or x (get_or xs i 0))
-    joined-more i x l h j = record {
-      clear = λ e. below_more (λ (k : ℕ). n ≤ k → get_or xs k 0 ≡ 0) i (j.clear (or-none x (get_or xs i 0) e).0) (λ m. (or-none x (get_or xs i 0) e).1);
-      none = λ z. ap (λ (t : ℕ). bit_or t (get_or xs i 0)) (j.none z) ∙ zeros-at n i l h z;
+    pub joined_more : (i x : ℕ) → n ≤ i → i < length xs → Joined xs n i x → Joined xs n (i + 1) (bit_or x (get_or xs i 0))
+    joined_more i x l h j = record {
+      clear = λ e. below_more (λ (k : ℕ). n ≤ k → get_or xs k 0 ≡ 0) i (j.clear (or_none x (get_or xs i 0) e).0) (λ m. (or_none x (get_or xs i 0) e).1);
+      none = λ z. ap (λ (t : ℕ). bit_or t (get_or xs i 0)) (j.none z) ∙ zeros_at n i l h z;
     }
 
-    pub joined-tells : (x : ℕ) → n ≤ length xs → Joined xs n (length xs) x → Tells (eqb x 0) (ZerosFrom xs n)
-    joined-tells x l j = record {
-      yes = λ e. zeros-all n l (j.clear (eqb-true _ _ e));
+    pub joined_tells : (x : ℕ) → n ≤ length xs → Joined xs n (length xs) x → Tells (eqb x 0) (ZerosFrom xs n)
+    joined_tells x l j = record {
+      yes = λ e. zeros_all n l (j.clear (eqb-true _ _ e));
       no = λ e z. eqb-false _ _ e (j.none z);
     }
 
-  pub cleared-none : xs ≡ clearedFrom xs (length xs)
-  cleared-none = sym (ap (λ (t : List ℕ). take (length xs) xs ++ t) none_left ∙ append-nil (take (length xs) xs) ∙ take-length xs)
+  pub cleared_none : xs ≡ cleared_from xs (length xs)
+  cleared_none = sym (ap (λ (t : List ℕ). take (length xs) xs ++ t) none_left ∙ append-nil (take (length xs) xs) ∙ take-length xs)
 
-  pub cleared_more : (i : ℕ) → i < length xs → set (clearedFrom xs (suc i)) i 0 ≡ clearedFrom xs i
+  pub cleared_more : (i : ℕ) → i < length xs → set (cleared_from xs (suc i)) i 0 ≡ cleared_from xs i
   cleared_more i h =
       let z : List ℕ = replicate (length xs - suc i) 0 in
       ap (λ (t : List ℕ). set (t ++ z) i 0) (take-suc xs i 0 h)

@@ -4,7 +4,7 @@ ghost use Rattle.std.specs.Prelude.{◌≡◌, ◌+◌, ◌/◌, ◌^◌, ◌<�
 ghost use Rattle.refusals.specs.Answers.{Tells};
 ghost use Rattle.soundness.specs.Leaves.{Ascends};
 ghost use Rattle.soundness.specs.Inner.{Below};
-ghost use Rattle.slots.specs.Slots.{Less, Within, ZerosFrom, clearedFrom, opened, splitAt, closed, joinAt};
+ghost use Rattle.slots.specs.Slots.{Less, Within, ZerosFrom, cleared_from, opened, split_slot, closed, join_at};
 
 // 1 where half of a slot, rounded down, is less than the bound, else 0, by the sign of their difference: no processor guesses the
 // way of a branch on such a comparison in a search. The difference of whole slots has no sign to read.
@@ -84,7 +84,7 @@ pub fn zeros_from(slots: &[u64], n: usize) -> bool
 // Makes every slot from `n` on zero.
 pub fn clear_from(slots: &mut [u64], n: usize)
     requires { n ≤ length slots.old }
-    ensures { slots.new ≡ clearedFrom slots.old n }
+    ensures { slots.new ≡ cleared_from slots.old n }
 {
     let mut k = slots.len();
     while n < k {
@@ -108,7 +108,7 @@ fn open_three(slots: &mut [u64], at: usize, n: usize)
 // Of `n` slots in use, makes the one at `at` four; the later ones move up three.
 pub fn split(slots: &mut [u64], at: usize, n: usize, a: u64, b: u64, c: u64, d: u64)
     requires { (at < n) × (n + 3 ≤ length slots.old) }
-    ensures { slots.new ≡ splitAt slots.old at n a b c d }
+    ensures { slots.new ≡ split_slot slots.old at n a b c d }
 {
     open_three(slots, at + 1, n);
     slots[at] = a;
@@ -133,7 +133,7 @@ fn close_three(slots: &mut [u64], at: usize, n: usize)
 // zero.
 pub fn join(slots: &mut [u64], at: usize, n: usize, code: u64)
     requires { (at + 4 ≤ n) × (n ≤ length slots.old) }
-    ensures { slots.new ≡ joinAt slots.old at n code }
+    ensures { slots.new ≡ join_at slots.old at n code }
 {
     let free = n - 3;
     close_three(slots, at + 1, free);

@@ -30,8 +30,8 @@ pub implies : (a b : Bool) → T (not a || b) → T a → T b
 implies true b h k = h
 implies false b h k = absurd k
 
-pub eq-eqb : (m n : ℕ) → m ≡ n → T (eqb m n)
-eq-eqb m n e = rw e (eqb_refl n)
+pub eq_eqb : (m n : ℕ) → m ≡ n → T (eqb m n)
+eq_eqb m n e = rw e (eqb_refl n)
 
 abbrev pub below : (ℕ → Bool) → ℕ → Bool
 below t zero = true
@@ -45,18 +45,18 @@ below_at t (suc n) h k l = go (below_at t n (and_r (t n) (below t n) h) k) (ℕ_
     go r (yes e) = rw e (and_l (t n) (below t n) h)
     go r (no e) = r (omega arith)
 
-abbrev pub corners-all : (Corner → Bool) → Bool
-corners-all t = t tip && (t lft && t rgt)
+abbrev pub corners_all : (Corner → Bool) → Bool
+corners_all t = t tip && (t lft && t rgt)
 
-pub corners-at : (t : Corner → Bool) → T (corners-all t) → (p : Corner) → T (t p)
-corners-at t h tip = and_l (t tip) (t lft && t rgt) h
-corners-at t h lft = and_l (t lft) (t rgt) (and_r (t tip) (t lft && t rgt) h)
-corners-at t h rgt = and_r (t lft) (t rgt) (and_r (t tip) (t lft && t rgt) h)
+pub corners_at : (t : Corner → Bool) → T (corners_all t) → (p : Corner) → T (t p)
+corners_at t h tip = and_l (t tip) (t lft && t rgt) h
+corners_at t h lft = and_l (t lft) (t rgt) (and_r (t tip) (t lft && t rgt) h)
+corners_at t h rgt = and_r (t lft) (t rgt) (and_r (t tip) (t lft && t rgt) h)
 
 abbrev pub sides_all : (Side → Bool) → Bool
 sides_all t = t left && (t right && t vertical)
 
-pub sides-at : (t : Side → Bool) → T (sides_all t) → (s : Side) → T (t s)
-sides-at t h left = and_l (t left) (t right && t vertical) h
-sides-at t h right = and_l (t right) (t vertical) (and_r (t left) (t right && t vertical) h)
-sides-at t h vertical = and_r (t right) (t vertical) (and_r (t left) (t right && t vertical) h)
+pub sides_at : (t : Side → Bool) → T (sides_all t) → (s : Side) → T (t s)
+sides_at t h left = and_l (t left) (t right && t vertical) h
+sides_at t h right = and_l (t right) (t vertical) (and_r (t left) (t right && t vertical) h)
+sides_at t h vertical = and_r (t right) (t vertical) (and_r (t left) (t right && t vertical) h)

@@ -1,16 +1,16 @@
 -- The three solids: their faces, their vertices, and how their faces meet.
 --
---   Solid           == tetrahedron, octahedron, icosahedron
---   Known s         == the number s names a solid
---   solidNo so      == the number of the solid so
---   solidOf s       == the solid that the number s names
---   faces so        == how many faces it has, counted from 0
---   vertices so     == how many vertices it has, counted from 0
---   Face, faceList  == tip, left and right vertex of a face; the faces of a solid
---   vertex so f p   == the vertex at corner p of face f
---   nextRow so s    == the next faces over side s, for each face
---   nextFace so s f == the face across side s of face f
---   mirrored so s f == the seam across side s of face f is mirrored
+--   Solid            == tetrahedron, octahedron, icosahedron
+--   Known s          == the number s names a solid
+--   solid_no so      == the number of the solid so
+--   solid_of s       == the solid that the number s names
+--   faces so         == how many faces it has, counted from 0
+--   vertices so      == how many vertices it has, counted from 0
+--   Face, face_list  == tip, left and right vertex of a face; the faces of a solid
+--   vertex so f p    == the vertex at corner p of face f
+--   next_row so s    == the next faces over side s, for each face
+--   next_face so s f == the face across side s of face f
+--   mirrored so s f  == the seam across side s of face f is mirrored
 --
 -- Assumes nothing.
 use Rattle.std.specs.Prelude.{Bool, true, false, ◌||◌, List, [], ◌∷◌, ◌++◌, ℕ, zero, suc, ◌+◌, ◌≤◌, leb, get_or}
@@ -23,17 +23,17 @@ pub data Solid : Type 0 where
 abbrev pub Known : ℕ → Type 0
 Known s = (1 ≤ s) × (s ≤ 3)
 
-abbrev pub solidNo : Solid → ℕ
-solidNo tetrahedron = 1
-solidNo octahedron = 2
-solidNo icosahedron = 3
+abbrev pub solid_no : Solid → ℕ
+solid_no tetrahedron = 1
+solid_no octahedron = 2
+solid_no icosahedron = 3
 
 -- of a number that is not known it says nothing: 0 is read as 1, what is above 3 as 3
-abbrev pub solidOf : ℕ → Solid
-solidOf zero = tetrahedron
-solidOf (suc zero) = tetrahedron
-solidOf (suc (suc zero)) = octahedron
-solidOf (suc (suc (suc n))) = icosahedron
+abbrev pub solid_of : ℕ → Solid
+solid_of zero = tetrahedron
+solid_of (suc zero) = tetrahedron
+solid_of (suc (suc zero)) = octahedron
+solid_of (suc (suc (suc n))) = icosahedron
 
 -- "Faces: 4, 8 and 20, counted from 0; each solid carries its own number of faces and number of vertices."
 abbrev pub faces : Solid → ℕ
@@ -62,10 +62,10 @@ ring4 at = at 0 1 ∷ at 1 2 ∷ at 2 3 ∷ at 3 0 ∷ []
 abbrev pub ring5 : (ℕ → ℕ → Face) → List Face
 ring5 at = at 0 1 ∷ at 1 2 ∷ at 2 3 ∷ at 3 4 ∷ at 4 0 ∷ []
 
-unfoldable pub faceList : Solid → List Face
-faceList tetrahedron = face 2 0 1 ∷ face 1 2 3 ∷ face 3 1 0 ∷ face 0 3 2 ∷ []
-faceList octahedron = ring4 (λ i j. face 0 (1 + i) (1 + j)) ++ ring4 (λ i j. face 5 (1 + i) (1 + j))
-faceList icosahedron =
+unfoldable pub face_list : Solid → List Face
+face_list tetrahedron = face 2 0 1 ∷ face 1 2 3 ∷ face 3 1 0 ∷ face 0 3 2 ∷ []
+face_list octahedron = ring4 (λ i j. face 0 (1 + i) (1 + j)) ++ ring4 (λ i j. face 5 (1 + i) (1 + j))
+face_list icosahedron =
     ring5 (λ i j. face 0 (1 + i) (1 + j)) ++
     (ring5 (λ i j. face (6 + i) (1 + i) (1 + j)) ++
     (ring5 (λ i j. face (1 + j) (6 + i) (6 + j)) ++
@@ -77,7 +77,7 @@ at f lft = f.left
 at f rgt = f.right
 
 abbrev pub vertex : Solid → ℕ → Corner → ℕ
-vertex so f p = at (get_or (faceList so) f (face 0 0 0)) p
+vertex so f p = at (get_or (face_list so) f (face 0 0 0)) p
 
 -- "takes the neighbouring face from a table per solid, a row for each direction"
 --
@@ -85,22 +85,22 @@ vertex so f p = at (get_or (faceList so) f (face 0 0 0)) p
 -- octahedron: right goes round 0 to 3 and round 4 to 7; vertical pairs i with 4+i
 -- icosahedron: right goes round 0 to 4 and round 15 to 19; 5+i goes to 10+i and 10+i to 5+(i+1);
 --     vertical pairs i with 5+i and 10+i with 15+i
-unfoldable pub nextRow : Solid → Side → List ℕ
-nextRow tetrahedron left = 3 ∷ 0 ∷ 1 ∷ 2 ∷ []
-nextRow tetrahedron right = 1 ∷ 2 ∷ 3 ∷ 0 ∷ []
-nextRow tetrahedron vertical = 2 ∷ 3 ∷ 0 ∷ 1 ∷ []
-nextRow octahedron left = 3 ∷ 0 ∷ 1 ∷ 2 ∷ 7 ∷ 4 ∷ 5 ∷ 6 ∷ []
-nextRow octahedron right = 1 ∷ 2 ∷ 3 ∷ 0 ∷ 5 ∷ 6 ∷ 7 ∷ 4 ∷ []
-nextRow octahedron vertical = 4 ∷ 5 ∷ 6 ∷ 7 ∷ 0 ∷ 1 ∷ 2 ∷ 3 ∷ []
-nextRow icosahedron left =
+unfoldable pub next_row : Solid → Side → List ℕ
+next_row tetrahedron left = 3 ∷ 0 ∷ 1 ∷ 2 ∷ []
+next_row tetrahedron right = 1 ∷ 2 ∷ 3 ∷ 0 ∷ []
+next_row tetrahedron vertical = 2 ∷ 3 ∷ 0 ∷ 1 ∷ []
+next_row octahedron left = 3 ∷ 0 ∷ 1 ∷ 2 ∷ 7 ∷ 4 ∷ 5 ∷ 6 ∷ []
+next_row octahedron right = 1 ∷ 2 ∷ 3 ∷ 0 ∷ 5 ∷ 6 ∷ 7 ∷ 4 ∷ []
+next_row octahedron vertical = 4 ∷ 5 ∷ 6 ∷ 7 ∷ 0 ∷ 1 ∷ 2 ∷ 3 ∷ []
+next_row icosahedron left =
     4 ∷ 0 ∷ 1 ∷ 2 ∷ 3 ∷ 14 ∷ 10 ∷ 11 ∷ 12 ∷ 13 ∷ 5 ∷ 6 ∷ 7 ∷ 8 ∷ 9 ∷ 19 ∷ 15 ∷ 16 ∷ 17 ∷ 18 ∷ []
-nextRow icosahedron right =
+next_row icosahedron right =
     1 ∷ 2 ∷ 3 ∷ 4 ∷ 0 ∷ 10 ∷ 11 ∷ 12 ∷ 13 ∷ 14 ∷ 6 ∷ 7 ∷ 8 ∷ 9 ∷ 5 ∷ 16 ∷ 17 ∷ 18 ∷ 19 ∷ 15 ∷ []
-nextRow icosahedron vertical =
+next_row icosahedron vertical =
     5 ∷ 6 ∷ 7 ∷ 8 ∷ 9 ∷ 0 ∷ 1 ∷ 2 ∷ 3 ∷ 4 ∷ 15 ∷ 16 ∷ 17 ∷ 18 ∷ 19 ∷ 10 ∷ 11 ∷ 12 ∷ 13 ∷ 14 ∷ []
 
-abbrev pub nextFace : Solid → Side → ℕ → ℕ
-nextFace so s f = get_or (nextRow so s) f 0
+abbrev pub next_face : Solid → Side → ℕ → ℕ
+next_face so s f = get_or (next_row so s) f 0
 
 -- "These are left and right on all octahedron faces and on icosahedron faces 0 to 4 and 15 to 19, and vertical on the
 -- tetrahedron."

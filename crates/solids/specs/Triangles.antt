@@ -4,8 +4,8 @@
 --   Side           == a side, and the direction that leads over it: left, right, vertical
 --   end₀ s, end₁ s == the two ends of the side s
 --   back s         == the direction that leads back
---   side_of n       == the side that the number n names
---   cornerOf n     == the corner that the number n names
+--   side_of n      == the side that the number n names
+--   corner_of n    == the corner that the number n names
 --
 -- Assumes nothing.
 use Rattle.std.specs.Prelude.{ℕ, zero, suc}
@@ -38,7 +38,7 @@ side_of zero = left
 side_of (suc zero) = right
 side_of (suc (suc n)) = vertical
 
-abbrev pub cornerOf : ℕ → Corner
-cornerOf zero = tip
-cornerOf (suc zero) = lft
-cornerOf (suc (suc n)) = rgt
+abbrev pub corner_of : ℕ → Corner
+corner_of zero = tip
+corner_of (suc zero) = lft
+corner_of (suc (suc n)) = rgt

@@ -3,8 +3,8 @@
 // 2 vertical; corner 0 tip, 1 left, 2 right; faces and vertices from 0. Inner functions: callers have checked the numbers.
 
 ghost use Rattle.std.specs.Prelude.{◌≡◌, ℕ, ◌<◌};
-ghost use Rattle.solids.specs.Triangles.{Side, side_of, cornerOf};
-ghost use Rattle.solids.specs.Solids.{Solid, Known, solidOf, tetrahedron, octahedron, icosahedron, faces, vertices, vertex, nextFace, mirrored};
+ghost use Rattle.solids.specs.Triangles.{Side, side_of, corner_of};
+ghost use Rattle.solids.specs.Solids.{Solid, Known, solid_of, tetrahedron, octahedron, icosahedron, faces, vertices, vertex, next_face, mirrored};
 ghost use Rattle.solids.specs.Seams.{Seam};
 
 #[derive(Drop)]
@@ -23,14 +23,14 @@ impl Tetrahedron {
 
     fn vertex(face: usize, corner: usize) -> u64
         requires { (face < 4) × (corner < 3) }
-        ensures { result ≡ vertex tetrahedron face (cornerOf corner) }
+        ensures { result ≡ vertex tetrahedron face (corner_of corner) }
     {
         wide(Tetrahedron::CORNERS[corner][face])
     }
 
     fn next_face(side: usize, face: usize) -> u64
         requires { (side < 3) × (face < 4) }
-        ensures { result ≡ nextFace tetrahedron (side_of side) face }
+        ensures { result ≡ next_face tetrahedron (side_of side) face }
     {
         wide(Tetrahedron::NEXT[side][face])
     }
@@ -58,14 +58,14 @@ impl Octahedron {
 
     fn vertex(face: usize, corner: usize) -> u64
         requires { (face < 8) × (corner < 3) }
-        ensures { result ≡ vertex octahedron face (cornerOf corner) }
+        ensures { result ≡ vertex octahedron face (corner_of corner) }
     {
         wide(Octahedron::CORNERS[corner][face])
     }
 
     fn next_face(side: usize, face: usize) -> u64
         requires { (side < 3) × (face < 8) }
-        ensures { result ≡ nextFace octahedron (side_of side) face }
+        ensures { result ≡ next_face octahedron (side_of side) face }
     {
         wide(Octahedron::NEXT[side][face])
     }
@@ -101,14 +101,14 @@ impl Icosahedron {
 
     fn vertex(face: usize, corner: usize) -> u64
         requires { (face < 20) × (corner < 3) }
-        ensures { result ≡ vertex icosahedron face (cornerOf corner) }
+        ensures { result ≡ vertex icosahedron face (corner_of corner) }
     {
         wide(Icosahedron::CORNERS[corner][face])
     }
 
     fn next_face(side: usize, face: usize) -> u64
         requires { (side < 3) × (face < 20) }
-        ensures { result ≡ nextFace icosahedron (side_of side) face }
+        ensures { result ≡ next_face icosahedron (side_of side) face }
     {
         wide(Icosahedron::NEXT[side][face])
     }
@@ -127,7 +127,7 @@ fn wide(x: u8) -> u64
 // How many faces the solid has.
 pub fn faces_of(solid: u64) -> u64
     requires { Known solid }
-    ensures { result ≡ faces (solidOf solid) }
+    ensures { result ≡ faces (solid_of solid) }
 {
     match solid {
         1 => Tetrahedron::FACES,
@@ -139,7 +139,7 @@ pub fn faces_of(solid: u64) -> u64
 // How many vertices the solid has.
 pub fn vertices_of(solid: u64) -> u64
     requires { Known solid }
-    ensures { result ≡ vertices (solidOf solid) }
+    ensures { result ≡ vertices (solid_of solid) }
 {
     match solid {
         1 => Tetrahedron::VERTICES,
@@ -150,8 +150,8 @@ pub fn vertices_of(solid: u64) -> u64
 
 // The vertex at a corner of a face.
 pub fn vertex_at(solid: u64, face: u64, corner: u64) -> u64
-    requires { Known solid × (face < faces (solidOf solid)) × (corner < 3) }
-    ensures { result ≡ vertex (solidOf solid) face (cornerOf corner) }
+    requires { Known solid × (face < faces (solid_of solid)) × (corner < 3) }
+    ensures { result ≡ vertex (solid_of solid) face (corner_of corner) }
 {
     match solid {
         1 => Tetrahedron::vertex(face as usize, corner as usize),
@@ -162,8 +162,8 @@ pub fn vertex_at(solid: u64, face: u64, corner: u64) -> u64
 
 // The face across a side of a face.
 pub fn next_face(solid: u64, side: u64, face: u64) -> u64
-    requires { Known solid × (side < 3) × (face < faces (solidOf solid)) }
-    ensures { result ≡ nextFace (solidOf solid) (side_of side) face }
+    requires { Known solid × (side < 3) × (face < faces (solid_of solid)) }
+    ensures { result ≡ next_face (solid_of solid) (side_of side) face }
 {
     match solid {
         1 => Tetrahedron::next_face(side as usize, face as usize),
@@ -176,7 +176,7 @@ pub fn next_face(solid: u64, side: u64, face: u64) -> u64
 // are no branches.
 pub fn is_mirrored(solid: u64, side: u64, face: u64) -> bool
     requires { Known solid × (side < 3) }
-    ensures { result ≡ mirrored (solidOf solid) (side_of side) face }
+    ensures { result ≡ mirrored (solid_of solid) (side_of side) face }
 {
     let on_side = MIRRORED >> (3 * solid + side) & 1 == 1;
     let off_belt = (solid < 3) | (face <= 4) | (15 <= face);

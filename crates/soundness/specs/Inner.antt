@@ -18,7 +18,7 @@
 -- Assumes nothing.
 use Rattle.std.specs.Prelude.{List, [], ◌∷◌, ◌⊎◌, ◌≡◌, ℕ, ◌-◌, ◌<◌, ◌≤◌, length, get_or, take, drop, replicate}
 use Rattle.codes.specs.Codes.{depth}
-use Rattle.codes.specs.Places.{place, past, base, end, CodeOn, parentCode, lastDigit}
+use Rattle.codes.specs.Places.{place, past, base, end, CodeOn, parent_code, last_digit}
 use Rattle.steps.specs.Edges.{first, OnEdge}
 use Rattle.soundness.specs.Regions.{InFaces}
 use Rattle.soundness.specs.Leaves.{Leaf, In}
@@ -72,11 +72,11 @@ Fine Q L n = (InFaces Q (place n) → ⊥) ⊎ Present L n
 pub record Asked (s a : ℕ) : Type 0 where
   pub low : s < 3
   pub two : 2 ≤ depth a
-  pub digit : lastDigit a ≡ first s
-  pub above : OnEdge s (lastDigit (parentCode a))
+  pub digit : last_digit a ≡ first s
+  pub above : OnEdge s (last_digit (parent_code a))
 
 abbrev pub Rows : ℕ → (ℕ → ℕ → ℕ) → List ℕ → Type 0
-Rows Q step L = (s a : ℕ) → Leaf L a → Asked s a → Fine Q L (step s (parentCode a))
+Rows Q step L = (s a : ℕ) → Leaf L a → Asked s a → Fine Q L (step s (parent_code a))
 
 pub record Passes (step : ℕ → ℕ → ℕ) (S Q : ℕ) (xs : List ℕ) (n : ℕ) : Type 0 where
   pub some : 0 < n

@@ -1,22 +1,22 @@
 -- Sets of faces: a number with one bit for each face. The whole solid is the set of all its faces.
 --
---   faceOf g    == the face on which the place g lies
+--   face_of g   == the face on which the place g lies
 --   InFaces Q g == the face of the place g is in the set Q
---   allFaces S  == all faces of the solid of number S
+--   all_faces S == all faces of the solid of number S
 --   FaceSet S Q == Q is a set of faces of the solid of number S, and not empty
 --
 -- Assumes nothing.
 use Rattle.std.specs.Prelude.{◌≡◌, ℕ, ◌-◌, ◌/◌, ◌%◌, ◌^◌, ◌<◌}
-use Rattle.solids.specs.Solids.{solidOf, faces}
+use Rattle.solids.specs.Solids.{solid_of, faces}
 
-abbrev pub faceOf : ℕ → ℕ
-faceOf g = g / 2 ^ 52 % 32
+abbrev pub face_of : ℕ → ℕ
+face_of g = g / 2 ^ 52 % 32
 
 unfoldable pub InFaces : ℕ → ℕ → Type 0
-InFaces Q g = Q / 2 ^ faceOf g % 2 ≡ 1
+InFaces Q g = Q / 2 ^ face_of g % 2 ≡ 1
 
-unfoldable pub allFaces : ℕ → ℕ
-allFaces S = 2 ^ faces (solidOf S) - 1
+unfoldable pub all_faces : ℕ → ℕ
+all_faces S = 2 ^ faces (solid_of S) - 1
 
 abbrev pub FaceSet : ℕ → ℕ → Type 0
-FaceSet S Q = (0 < Q) × (Q < 2 ^ faces (solidOf S))
+FaceSet S Q = (0 < Q) × (Q < 2 ^ faces (solid_of S))

@@ -11,7 +11,7 @@
 -- Assumes nothing.
 use Rattle.std.specs.Prelude.{List, ◌⊎◌, ◌≡◌, ℕ, ◌+◌, ◌<◌, ◌≤◌}
 use Rattle.codes.specs.Codes.{depth}
-use Rattle.codes.specs.Places.{childCode}
+use Rattle.codes.specs.Places.{child_code}
 use Rattle.soundness.specs.Leaves.{Leaf}
 use Rattle.soundness.specs.Soundness.{Meets}
 use Rattle.soundness.specs.declared.Met.{Met}
@@ -42,9 +42,9 @@ MetIs L a s (Smaller b c) = Two L a s b c
 MetIs L a s Open = (x : ℕ) → Leaf L x → Meets a s x → ⊥
 
 pub data OneOrTwo (L : List ℕ) (a s : ℕ) : Type 0 where
-  one-larger : (b : ℕ) → MetIs L a s (Larger b) → OneOrTwo L a s
-  one-equal : (b : ℕ) → MetIs L a s (Equal b) → OneOrTwo L a s
-  two-smaller : (b c : ℕ) → MetIs L a s (Smaller b c) → OneOrTwo L a s
+  one_larger : (b : ℕ) → MetIs L a s (Larger b) → OneOrTwo L a s
+  one_equal : (b : ℕ) → MetIs L a s (Equal b) → OneOrTwo L a s
+  two_smaller : (b c : ℕ) → MetIs L a s (Smaller b c) → OneOrTwo L a s
 
 -- "Refine is BLOCKED when a side meets a larger leaf."
 pub record BlocksRefine (L : List ℕ) (a b : ℕ) : Type 0 where
@@ -61,7 +61,7 @@ pub record BlocksCoarsen (L : List ℕ) (c b : ℕ) : Type 0 where
   pub four : digit < 4
   pub side : ℕ
   pub low : side < 3
-  pub meets : Meets (childCode c digit) side b
+  pub meets : Meets (child_code c digit) side b
   pub smaller : depth c + 1 < depth b
 
 pub record Some (P : ℕ → Type 0) : Type 0 where

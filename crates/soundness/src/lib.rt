@@ -5,11 +5,11 @@ ghost use Rattle.std.specs.Prelude.{List, ◌≡◌, ℕ, ◌+◌, ◌<◌, ◌�
 ghost use Rattle.solids.specs.Solids.{Known};
 ghost use Rattle.refusals.specs.Answers.{Tells};
 ghost use Rattle.codes.specs.Codes.{depth};
-ghost use Rattle.codes.specs.Places.{CodeOn, childCode};
-ghost use Rattle.soundness.specs.Regions.{InFaces, allFaces, FaceSet};
+ghost use Rattle.codes.specs.Places.{CodeOn, child_code};
+ghost use Rattle.soundness.specs.Regions.{InFaces, all_faces, FaceSet};
 ghost use Rattle.soundness.specs.Leaves.{Leaf, leaves, pad};
 ghost use Rattle.soundness.specs.Soundness.{Level, Mesh, Sound};
-ghost use Rattle.soundness.specs.Changes.{freshLeaves, refined, coarsened};
+ghost use Rattle.soundness.specs.Changes.{fresh_leaves, refined, coarsened};
 ghost use Rattle.soundness.specs.Sides.{MetIs, OneOrTwo, BlocksRefine, BlocksCoarsen, Some};
 ghost use Rattle.soundness.specs.declared.Met as met;
 
@@ -35,7 +35,7 @@ pub fn in_faces(faces: u64, place: u64) -> bool
 
 // The faces of a set in order, in at most 8,192 slots, are a sound mesh of those faces.
 pub fn a_fresh_mesh_is_sound()
-    ensures { (S Q n : ℕ) → Known S → FaceSet S Q → length (freshLeaves S Q) ≤ n → n ≤ 8192 → Sound S Q (pad n (freshLeaves S Q)) }
+    ensures { (S Q n : ℕ) → Known S → FaceSet S Q → length (fresh_leaves S Q) ≤ n → n ≤ 8192 → Sound S Q (pad n (fresh_leaves S Q)) }
 {}
 
 // Refining a leaf of depth below 26 keeps a mesh sound, where there is room for three more leaves and no side of the leaf
@@ -50,15 +50,15 @@ pub fn refining_keeps_a_mesh_sound()
 // one does, leaves that share a stretch of a side would be two levels apart.
 pub fn coarsening_keeps_a_mesh_sound()
     ensures by_index { (S Q c : ℕ) (xs : List ℕ) → Sound S Q xs → CodeOn S c → depth c < 26 →
-        ((q : ℕ) → q < 4 → Leaf (leaves xs) (childCode c q)) → (Some (BlocksCoarsen (leaves xs) c) → ⊥) →
+        ((q : ℕ) → q < 4 → Leaf (leaves xs) (child_code c q)) → (Some (BlocksCoarsen (leaves xs) c) → ⊥) →
         Sound S Q (pad (length xs) (coarsened c (leaves xs))) }
     ensures by_index_2 { (S Q c : ℕ) (L : List ℕ) → Mesh S Q L → CodeOn S c → depth c < 26 →
-        ((q : ℕ) → q < 4 → Leaf L (childCode c q)) → Some (BlocksCoarsen L c) → Level (coarsened c L) → ⊥ }
+        ((q : ℕ) → q < 4 → Leaf L (child_code c q)) → Some (BlocksCoarsen L c) → Level (coarsened c L) → ⊥ }
 {}
 
 // On a mesh of the whole solid each side of each leaf meets one leaf, equal or larger, or exactly two smaller; and what a side
 // meets has one answer.
 pub fn each_side_meets_one_leaf_or_two_smaller()
-    ensures by_index { (S : ℕ) (L : List ℕ) → Mesh S (allFaces S) L → (a s : ℕ) → Leaf L a → s < 3 → OneOrTwo L a s }
+    ensures by_index { (S : ℕ) (L : List ℕ) → Mesh S (all_faces S) L → (a s : ℕ) → Leaf L a → s < 3 → OneOrTwo L a s }
     ensures by_index_2 { (L : List ℕ) (a s : ℕ) (m n : met.Met) → MetIs L a s m → MetIs L a s n → m ≡ n }
 {}

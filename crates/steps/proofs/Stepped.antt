@@ -3,73 +3,73 @@
 use Rattle.std.proofs.Common.{◌≡◌, ℕ, ◌<◌, ◌≤◌, Bool, true, false, List, map, sym, refl, ap, ◌∙◌, ap₂, inl, inr, arith}
 use lib.ListN.{length-map}
 use Rattle.solids.specs.Triangles.{side_of}
-use Rattle.solids.specs.Solids.{Solid, solidOf, nextFace, mirrored}
-use Rattle.solids.proofs.Numbers.{no-solid, faces-few}
+use Rattle.solids.specs.Solids.{Solid, solid_of, next_face, mirrored}
+use Rattle.solids.proofs.Numbers.{no_solid, faces_few}
 use Rattle.solids.proofs.Seams.{joined}
 use Rattle.refusals.specs.Refusals.{DIRECTION, need, Single}
 use Rattle.refusals.specs.Answers.{done, refused}
-use Rattle.refusals.proofs.Refusals.{need-single, met}
+use Rattle.refusals.proofs.Refusals.{need_single, met}
 use Rattle.geometry.specs.Corners.{Digit}
 use Rattle.geometry.specs.Cells.{depth_of}
 use Rattle.geometry.specs.Steps.{walked, crosses, mirror, way_of, way, moved, step}
 use Rattle.geometry.specs.Neighbours.{Neighbour}
 use Rattle.geometry.proofs.Across.{length-walked}
-use Rattle.geometry.proofs.Neighbours.{neighbour, one-neighbour}
+use Rattle.geometry.proofs.Neighbours.{neighbour, one_neighbour}
 use Rattle.codes.specs.Codes as codes
-use Rattle.codes.specs.Codes.{solid, face, depth, Code, pathOf, cell_of, code_of}
-use Rattle.codes.proofs.Faults.{code-single, code-on, code-hand-on, code-passed}
-use Rattle.codes.proofs.Codes.{code-formed, cell-code, cell-formed, cell-depth, cell-deep, one_code}
-use Rattle.steps.specs.Stepped.{stepFaults, Arrives, Stepped, stepCode}
+use Rattle.codes.specs.Codes.{solid, face, depth, Code, path_of, cell_of, code_of}
+use Rattle.codes.proofs.Faults.{code_single, code_on, code_hand_on, code_passed}
+use Rattle.codes.proofs.Codes.{code_formed, cell_code, cell_formed, cell_depth, cell_deep, one_code}
+use Rattle.steps.specs.Stepped.{step_faults, Arrives, Stepped, step_code}
 
 module _ (x s : ℕ) (c : Code x) where
   pub across : Neighbour (side_of s) (cell_of x) (step (side_of s) (cell_of x))
-  across = neighbour (side_of s) (cell_of x) (cell-formed x c)
+  across = neighbour (side_of s) (cell_of x) (cell_formed x c)
 
   deep : depth_of (step (side_of s) (cell_of x)) ≤ 26
-  deep = rw across.depth (cell-deep x c)
+  deep = rw across.depth (cell_deep x c)
 
-  pub step-code : Code (stepCode s x)
-  step-code = code-formed (step (side_of s) (cell_of x)) across.wellFormed deep
+  pub step_code_lem : Code (step_code s x)
+  step_code_lem = code_formed (step (side_of s) (cell_of x)) across.well_formed deep
 
-  pub step-cell : cell_of (stepCode s x) ≡ step (side_of s) (cell_of x)
-  step-cell = cell-code (step (side_of s) (cell_of x)) across.wellFormed deep
+  pub step_cell : cell_of (step_code s x) ≡ step (side_of s) (cell_of x)
+  step_cell = cell_code (step (side_of s) (cell_of x)) across.well_formed deep
 
-  pub arrives : Arrives x s (done (stepCode s x))
-  arrives = record { number = refl; code = step-code; across = rw step-cell across }
+  pub arrives : Arrives x s (done (step_code s x))
+  arrives = record { number = refl; code = step_code_lem; across = rw step_cell across }
 
   -- a code that is a neighbour is the step's
-  pub one-step : (y : ℕ) → Code y → Neighbour (side_of s) (cell_of x) (cell_of y) → y ≡ stepCode s x
-  one-step y k n = one_code y (stepCode s x) k step-code (one-neighbour (side_of s) (cell_of x) (cell_of y) (cell-formed x c) n ∙ sym step-cell)
+  pub one_step : (y : ℕ) → Code y → Neighbour (side_of s) (cell_of x) (cell_of y) → y ≡ step_code s x
+  one_step y k n = one_code y (step_code s x) k step_code_lem (one_neighbour (side_of s) (cell_of x) (cell_of y) (cell_formed x c) n ∙ sym step_cell)
 
-  arrives-single : Single (Arrives x s)
-  arrives-single a b p q =
+  arrives_single : Single (Arrives x s)
+  arrives_single a b p q =
       ap₂ (λ (m n : ℕ). record { number = m; value = n }) (p.number ∙ sym q.number)
-      (one-step a.value p.code p.across ∙ sym (one-step b.value q.code q.across))
+      (one_step a.value p.code p.across ∙ sym (one_step b.value q.code q.across))
 
 -- the sequence 1 to 5: how a call hands on the number of the check, and what the number 0 says
 
 module _ {A : Type 0} (out : ℕ → A) (x s : ℕ) (rest : A → Type 0) where
-  pub step-refused : {n : ℕ} → stepFaults (λ k. k) x s (λ n. n ≡ 0) n → (n ≡ 0 → ⊥) → stepFaults out x s rest (out n)
-  step-refused {n} h z = code-hand-on out x (need (s < 3) (out DIRECTION) rest) (need (s < 3) DIRECTION (λ n. n ≡ 0)) h last
+  pub step_refused : {n : ℕ} → step_faults (λ k. k) x s (λ n. n ≡ 0) n → (n ≡ 0 → ⊥) → step_faults out x s rest (out n)
+  step_refused {n} h z = code_hand_on out x (need (s < 3) (out DIRECTION) rest) (need (s < 3) DIRECTION (λ n. n ≡ 0)) h last
     where
       last : need (s < 3) DIRECTION (λ n. n ≡ 0) n → need (s < 3) (out DIRECTION) rest (out n)
       last (inl p) = inl (p.0, ap out p.1)
       last (inr p) = absurd (z p.1)
 
-  pub step-on : {a : A} → Code x → s < 3 → rest a → stepFaults out x s rest a
-  step-on c h r = code-on out x (need (s < 3) (out DIRECTION) rest) c (inr (h, r))
+  pub step_on : {a : A} → Code x → s < 3 → rest a → step_faults out x s rest a
+  step_on c h r = code_on out x (need (s < 3) (out DIRECTION) rest) c (inr (h, r))
 
-  pub step-passed : {a : A} → ((k : ℕ) → 0 < k → a ≡ out k → ⊥) → stepFaults out x s rest a → Code x × (s < 3) × rest a
-  step-passed n h =
-      let p = code-passed out x (need (s < 3) (out DIRECTION) rest) n h in
+  pub step_passed : {a : A} → ((k : ℕ) → 0 < k → a ≡ out k → ⊥) → step_faults out x s rest a → Code x × (s < 3) × rest a
+  step_passed n h =
+      let p = code_passed out x (need (s < 3) (out DIRECTION) rest) n h in
       let q = met (n DIRECTION (omega arith)) p.1 in
       (p.0, q.0, q.1)
 
-pub step-formed : (x s : ℕ) {n : ℕ} → stepFaults (λ k. k) x s (λ n. n ≡ 0) n → n ≡ 0 → Code x × (s < 3)
-step-formed x s h z = let p = step-passed (λ k. k) x s (λ n. n ≡ 0) (λ k l e. omega arith) h in (p.0, p.1)
+pub step_formed : (x s : ℕ) {n : ℕ} → step_faults (λ k. k) x s (λ n. n ≡ 0) n → n ≡ 0 → Code x × (s < 3)
+step_formed x s h z = let p = step_passed (λ k. k) x s (λ n. n ≡ 0) (λ k l e. omega arith) h in (p.0, p.1)
 
-pub stepped-single : (x s : ℕ) → Single (Stepped x s)
-stepped-single x s = code-single refused x (need (s < 3) (refused DIRECTION) (Arrives x s)) (λ c. need-single (λ h. arrives-single x s c))
+pub stepped_single : (x s : ℕ) → Single (Stepped x s)
+stepped_single x s = code_single refused x (need (s < 3) (refused DIRECTION) (Arrives x s)) (λ c. need_single (λ h. arrives_single x s c))
 
 -- the step's code, by the way it goes
 module _ (x s : ℕ) (c : Code x) where
@@ -77,32 +77,32 @@ module _ (x s : ℕ) (c : Code x) where
   ds = (cell_of x).path
 
   abbrev so : Solid
-  so = solidOf (solid x)
+  so = solid_of (solid x)
 
-  by_way : (b m : Bool) → crosses (side_of s) ds ≡ b → mirrored so (side_of s) (face x) ≡ m → stepCode s x ≡ code_of (moved (way_of b m) (side_of s) (cell_of x))
+  by_way : (b m : Bool) → crosses (side_of s) ds ≡ b → mirrored so (side_of s) (face x) ≡ m → step_code s x ≡ code_of (moved (way_of b m) (side_of s) (cell_of x))
   unfolding step way cell_of
   by_way b m e f = ap₂ (λ (u v : Bool). code_of (moved (way_of u v) (side_of s) (cell_of x))) e f
 
-  pub inside-code : crosses (side_of s) ds ≡ false → stepCode s x ≡ codes.joined (solid x) (face x) (pathOf (walked (side_of s) ds)) (depth x)
+  pub inside_code : crosses (side_of s) ds ≡ false → step_code s x ≡ codes.joined (solid x) (face x) (path_of (walked (side_of s) ds)) (depth x)
   unfolding code_of cell_of
-  inside-code e =
+  inside_code e =
       by_way false (mirrored so (side_of s) (face x)) e refl
-      ∙ rw (no-solid (solid x) c.known, length-walked (side_of s) ds, cell-depth x)
+      ∙ rw (no_solid (solid x) c.known, length-walked (side_of s) ds, cell_depth x)
 
-  pub straight-code : crosses (side_of s) ds ≡ true → mirrored so (side_of s) (face x) ≡ false →
-      stepCode s x ≡ codes.joined (solid x) (nextFace so (side_of s) (face x)) (pathOf (walked (side_of s) ds)) (depth x)
+  pub straight_code : crosses (side_of s) ds ≡ true → mirrored so (side_of s) (face x) ≡ false →
+      step_code s x ≡ codes.joined (solid x) (next_face so (side_of s) (face x)) (path_of (walked (side_of s) ds)) (depth x)
   unfolding code_of cell_of
-  straight-code e f =
+  straight_code e f =
       by_way true false e f
-      ∙ rw (no-solid (solid x) c.known, length-walked (side_of s) ds, cell-depth x)
+      ∙ rw (no_solid (solid x) c.known, length-walked (side_of s) ds, cell_depth x)
 
-  pub mirrored-code : crosses (side_of s) ds ≡ true → mirrored so (side_of s) (face x) ≡ true →
-      stepCode s x ≡ codes.joined (solid x) (nextFace so (side_of s) (face x)) (pathOf (map mirror ds)) (depth x)
+  pub mirrored_code : crosses (side_of s) ds ≡ true → mirrored so (side_of s) (face x) ≡ true →
+      step_code s x ≡ codes.joined (solid x) (next_face so (side_of s) (face x)) (path_of (map mirror ds)) (depth x)
   unfolding code_of cell_of
-  mirrored-code e f =
+  mirrored_code e f =
       by_way true true e f
-      ∙ rw (no-solid (solid x) c.known, length-map ds mirror, cell-depth x)
+      ∙ rw (no_solid (solid x) c.known, length-map ds mirror, cell_depth x)
 
   -- the face across a seam fits its field
-  pub next_fits : nextFace so (side_of s) (face x) < 32
-  next_fits = omega (arith, (joined so (face x) c.on (side_of s)).there, faces-few so)
+  pub next_fits : next_face so (side_of s) (face x) < 32
+  next_fits = omega (arith, (joined so (face x) c.on (side_of s)).there, faces_few so)

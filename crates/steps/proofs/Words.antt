@@ -4,19 +4,19 @@ use Rattle.std.proofs.Common.{◌≡◌, ℕ, ◌+◌, ◌-◌, ◌*◌, ◌/◌
 use native.Mathlib.Nat.{mul-div-mul_right, mul-mod_left}
 use lib.ListN.{length-map}
 use Rattle.solids.specs.Triangles.{side_of}
-use Rattle.solids.specs.Solids.{solidOf, nextFace, mirrored}
+use Rattle.solids.specs.Solids.{solid_of, next_face, mirrored}
 use Rattle.geometry.specs.Corners.{Digit}
 use Rattle.geometry.specs.Paths.{number, digits}
 use Rattle.geometry.specs.Steps.{walked, crosses, mirror}
 use Rattle.geometry.proofs.Across.{length-walked}
-use Rattle.codes.specs.Codes.{solid, face, path, depth, joined, size, Code, pathOf, cell_of}
-use Rattle.codes.proofs.Sizes.{size-two}
-use Rattle.codes.proofs.Codes.{path-fits, digits-fit, cell-depth}
-use Rattle.carry.specs.Carries.{digitsOf, word_of, Carries, Mirrors}
+use Rattle.codes.specs.Codes.{solid, face, path, depth, joined, size, Code, path_of, cell_of}
+use Rattle.codes.proofs.Sizes.{size_two}
+use Rattle.codes.proofs.Codes.{path_fits, digits_fit, cell_depth}
+use Rattle.carry.specs.Carries.{digits_of, word_of, Carries, Mirrors}
 use Rattle.walk.specs.Walks.{Walks}
-use Rattle.steps.specs.Stepped.{stepCode}
+use Rattle.steps.specs.Stepped.{step_code}
 use Rattle.steps.specs.Words.{Over}
-use Rattle.steps.proofs.Stepped.{inside-code, straight-code, mirrored-code}
+use Rattle.steps.proofs.Stepped.{inside_code, straight_code, mirrored_code}
 
 -- a word has six digits more than a path
 
@@ -26,8 +26,8 @@ word_size d h =
     let e : 32 - d ≡ (26 - d) + 6 = omega arith in
     ap (λ (n : ℕ). 4 ^ n) e ∙ pow-add 4 (26 - d) 6
 
-word-path : (d : ℕ) (ds : List Digit) → d ≤ 26 → length ds ≡ d → word_of d ds ≡ pathOf ds * 2 ^ 12
-word-path d ds h e =
+word_path : (d : ℕ) (ds : List Digit) → d ≤ 26 → length ds ≡ d → word_of d ds ≡ path_of ds * 2 ^ 12
+word_path d ds h e =
     ap (λ (m : ℕ). number ds * m) (word_size d h) ∙ sym (mul_assoc (number ds) (size d) (2 ^ 12))
     ∙ ap (λ (m : ℕ). number ds * size m * 2 ^ 12) (sym e)
 
@@ -42,89 +42,89 @@ module _ (x w : ℕ) (c : Code x) (e : w ≡ path x * 2 ^ 12) where
       e ∙ ap (λ (m : ℕ). m * 2 ^ 12) p ∙ mul_assoc (path x / s) s (2 ^ 12) ∙ ap (λ (m : ℕ). path x / s * m) (sym (word_size (depth x) c.deep)) in
       ap (λ (m : ℕ). m % 4 ^ (32 - depth x)) q ∙ mul-mod_left (path x / s) (4 ^ (32 - depth x))
 
-  digits_same : digitsOf (depth x) w ≡ (cell_of x).path
+  digits_same : digits_of (depth x) w ≡ (cell_of x).path
   unfolding cell_of
   digits_same = ap (digits (depth x)) (ap₂ ◌/◌ e (word_size (depth x) c.deep) ∙ mul-div-mul_right (path x) (size (depth x)) (lit< tt))
 
 -- what is left by carries, what is left by digits
 
 module _ (x s : ℕ) (c : Code x) where
-  walked-depth : length (walked (side_of s) (cell_of x).path) ≡ depth x
-  walked-depth = length-walked (side_of s) (cell_of x).path ∙ cell-depth x
+  walked_depth : length (walked (side_of s) (cell_of x).path) ≡ depth x
+  walked_depth = length-walked (side_of s) (cell_of x).path ∙ cell_depth x
 
-  walked-word : word_of (depth x) (walked (side_of s) (cell_of x).path) ≡ pathOf (walked (side_of s) (cell_of x).path) * 2 ^ 12
-  walked-word = word-path (depth x) (walked (side_of s) (cell_of x).path) c.deep walked-depth
+  walked_word : word_of (depth x) (walked (side_of s) (cell_of x).path) ≡ path_of (walked (side_of s) (cell_of x).path) * 2 ^ 12
+  walked_word = word_path (depth x) (walked (side_of s) (cell_of x).path) c.deep walked_depth
 
-  pub over-carried : (d w p : ℕ) (lost : Bool) → d ≡ depth x → w ≡ path x * 2 ^ 12 → Carries (side_of s) d w p lost → Over x s p lost
-  over-carried d w p lost e f k =
-      let i : digitsOf d w ≡ (cell_of x).path = ap (λ (n : ℕ). digitsOf n w) e ∙ digits_same x w c f in
+  pub over_carried : (d w p : ℕ) (lost : Bool) → d ≡ depth x → w ≡ path x * 2 ^ 12 → Carries (side_of s) d w p lost → Over x s p lost
+  over_carried d w p lost e f k =
+      let i : digits_of d w ≡ (cell_of x).path = ap (λ (n : ℕ). digits_of n w) e ∙ digits_same x w c f in
       record {
         path = k.arrives ∙ ap₂ (λ (n : ℕ) (l : List Digit). word_of n (walked (side_of s) l)) e i;
         flag = k.over ∙ ap (crosses (side_of s)) i;
       }
 
-  pub over-walked : (d q r : ℕ) (lost : Bool) → d ≡ depth x → q ≡ path x → Walks s (q / 2 ^ (52 - 2 * d)) d r lost →
+  pub over_walked : (d q r : ℕ) (lost : Bool) → d ≡ depth x → q ≡ path x → Walks s (q / 2 ^ (52 - 2 * d)) d r lost →
       Over x s ((r * 2 ^ (52 - 2 * d)) % 2 ^ 64 * 2 ^ 12 % 2 ^ 64) lost
   unfolding cell_of
-  over-walked d q r lost e f k =
+  over_walked d q r lost e f k =
       let ds = walked (side_of s) (cell_of x).path in
-      let z : 2 ^ (52 - 2 * d) ≡ size (depth x) = ap (λ (n : ℕ). 2 ^ (52 - 2 * n)) e ∙ sym (size-two (depth x) c.deep) in
+      let z : 2 ^ (52 - 2 * d) ≡ size (depth x) = ap (λ (n : ℕ). 2 ^ (52 - 2 * n)) e ∙ sym (size_two (depth x) c.deep) in
       let i : digits d (q / 2 ^ (52 - 2 * d)) ≡ (cell_of x).path = ap₂ digits e (ap₂ ◌/◌ f z) in
       let v : r ≡ number ds = k.path ∙ ap (λ (l : List Digit). number (walked (side_of s) l)) i in
-      let u : r * 2 ^ (52 - 2 * d) ≡ pathOf ds = ap₂ ◌*◌ v (z ∙ ap size (sym walked-depth)) in
-      let l : pathOf ds < 2 ^ 52 = path-fits ds (rw walked-depth c.deep) in
-      let m : pathOf ds % 2 ^ 64 * 2 ^ 12 % 2 ^ 64 ≡ pathOf ds * 2 ^ 12 = omega arith in
+      let u : r * 2 ^ (52 - 2 * d) ≡ path_of ds = ap₂ ◌*◌ v (z ∙ ap size (sym walked_depth)) in
+      let l : path_of ds < 2 ^ 52 = path_fits ds (rw walked_depth c.deep) in
+      let m : path_of ds % 2 ^ 64 * 2 ^ 12 % 2 ^ 64 ≡ path_of ds * 2 ^ 12 = omega arith in
       record {
-        path = ap (λ (n : ℕ). n % 2 ^ 64 * 2 ^ 12 % 2 ^ 64) u ∙ m ∙ sym walked-word;
+        path = ap (λ (n : ℕ). n % 2 ^ 64 * 2 ^ 12 % 2 ^ 64) u ∙ m ∙ sym walked_word;
         flag = k.over ∙ ap (crosses (side_of s)) i;
       }
 
-  pub walk-fits : (d q : ℕ) → d ≡ depth x → q ≡ path x → q / 2 ^ (52 - 2 * d) < 4 ^ d
-  walk-fits d q e f =
-      let z : 2 ^ (52 - 2 * d) ≡ size d = sym (size-two d (rw e c.deep)) in
-      rw z (digits-fit q d (rw e c.deep) (rw f c.tail.0))
+  pub walk_fits : (d q : ℕ) → d ≡ depth x → q ≡ path x → q / 2 ^ (52 - 2 * d) < 4 ^ d
+  walk_fits d q e f =
+      let z : 2 ^ (52 - 2 * d) ≡ size d = sym (size_two d (rw e c.deep)) in
+      rw z (digits_fit q d (rw e c.deep) (rw f c.tail.0))
 
-  pub over-told : {w : ℕ} {a b : Bool} → a ≡ b → Over x s w a → Over x s w b
-  over-told {w} e o = subst (λ (f : Bool). Over x s w f) e o
+  pub over_told : {w : ℕ} {a b : Bool} → a ≡ b → Over x s w a → Over x s w b
+  over_told {w} e o = subst (λ (f : Bool). Over x s w f) e o
 
-  pub over-tidy : {w : ℕ} {b : Bool} → Over x s w b → w % 2 ^ 12 ≡ 0
-  over-tidy o = omega (arith, o.path ∙ walked-word)
+  pub over_tidy : {w : ℕ} {b : Bool} → Over x s w b → w % 2 ^ 12 ≡ 0
+  over_tidy o = omega (arith, o.path ∙ walked_word)
 
-  over-path : {w : ℕ} {b : Bool} → Over x s w b → w / 2 ^ 12 ≡ pathOf (walked (side_of s) (cell_of x).path)
-  over-path o = omega (arith, o.path ∙ walked-word)
+  over_path : {w : ℕ} {b : Bool} → Over x s w b → w / 2 ^ 12 ≡ path_of (walked (side_of s) (cell_of x).path)
+  over_path o = omega (arith, o.path ∙ walked_word)
 
   -- the neighbour's code: inside the face, over a straight seam, over a mirrored one
 
-  pub go-inside : {w : ℕ} → Over x s w false → joined (solid x) (face x) (w / 2 ^ 12) (depth x) ≡ stepCode s x
-  go-inside o = ap (λ (p : ℕ). joined (solid x) (face x) p (depth x)) (over-path o) ∙ sym (inside-code x s c (sym o.flag))
+  pub go_inside : {w : ℕ} → Over x s w false → joined (solid x) (face x) (w / 2 ^ 12) (depth x) ≡ step_code s x
+  go_inside o = ap (λ (p : ℕ). joined (solid x) (face x) p (depth x)) (over_path o) ∙ sym (inside_code x s c (sym o.flag))
 
-  go-straight : {w : ℕ} → Over x s w true → mirrored (solidOf (solid x)) (side_of s) (face x) ≡ false →
-      joined (solid x) (nextFace (solidOf (solid x)) (side_of s) (face x)) (w / 2 ^ 12) (depth x) ≡ stepCode s x
-  go-straight o m =
-      ap (λ (p : ℕ). joined (solid x) (nextFace (solidOf (solid x)) (side_of s) (face x)) p (depth x)) (over-path o)
-      ∙ sym (straight-code x s c (sym o.flag) m)
+  go_straight : {w : ℕ} → Over x s w true → mirrored (solid_of (solid x)) (side_of s) (face x) ≡ false →
+      joined (solid x) (next_face (solid_of (solid x)) (side_of s) (face x)) (w / 2 ^ 12) (depth x) ≡ step_code s x
+  go_straight o m =
+      ap (λ (p : ℕ). joined (solid x) (next_face (solid_of (solid x)) (side_of s) (face x)) p (depth x)) (over_path o)
+      ∙ sym (straight_code x s c (sym o.flag) m)
 
-  pub mirrored-word : (w p : ℕ) → w ≡ path x * 2 ^ 12 → Mirrors w p → p ≡ pathOf (map mirror (cell_of x).path) * 2 ^ 12
-  mirrored-word w p e k =
+  pub mirrored_word : (w p : ℕ) → w ≡ path x * 2 ^ 12 → Mirrors w p → p ≡ path_of (map mirror (cell_of x).path) * 2 ^ 12
+  mirrored_word w p e k =
       k (depth x) c.deep (aligned x w c e) ∙ ap (λ (l : List Digit). word_of (depth x) (map mirror l)) (digits_same x w c e)
-      ∙ word-path (depth x) (map mirror (cell_of x).path) c.deep (length-map (cell_of x).path mirror ∙ cell-depth x)
+      ∙ word_path (depth x) (map mirror (cell_of x).path) c.deep (length-map (cell_of x).path mirror ∙ cell_depth x)
 
-  go-mirrored : {w : ℕ} → Over x s w true → mirrored (solidOf (solid x)) (side_of s) (face x) ≡ true →
-      (p : ℕ) → p ≡ pathOf (map mirror (cell_of x).path) * 2 ^ 12 →
-      joined (solid x) (nextFace (solidOf (solid x)) (side_of s) (face x)) (p / 2 ^ 12) (depth x) ≡ stepCode s x
-  go-mirrored o m p q =
-      let e : p / 2 ^ 12 ≡ pathOf (map mirror (cell_of x).path) = omega arith in
-      ap (λ (n : ℕ). joined (solid x) (nextFace (solidOf (solid x)) (side_of s) (face x)) n (depth x)) e
-      ∙ sym (mirrored-code x s c (sym o.flag) m)
+  go_mirrored : {w : ℕ} → Over x s w true → mirrored (solid_of (solid x)) (side_of s) (face x) ≡ true →
+      (p : ℕ) → p ≡ path_of (map mirror (cell_of x).path) * 2 ^ 12 →
+      joined (solid x) (next_face (solid_of (solid x)) (side_of s) (face x)) (p / 2 ^ 12) (depth x) ≡ step_code s x
+  go_mirrored o m p q =
+      let e : p / 2 ^ 12 ≡ path_of (map mirror (cell_of x).path) = omega arith in
+      ap (λ (n : ℕ). joined (solid x) (next_face (solid_of (solid x)) (side_of s) (face x)) n (depth x)) e
+      ∙ sym (mirrored_code x s c (sym o.flag) m)
 
   -- over a seam of either kind
 
-  pub over-chosen : (m : Bool) {w p : ℕ} {b : Bool} → Over x s w b → p ≡ pathOf (map mirror (cell_of x).path) * 2 ^ 12 → cond m p w % 2 ^ 12 ≡ 0
-  over-chosen true o q = omega arith
-  over-chosen false o q = over-tidy o
+  pub over_chosen : (m : Bool) {w p : ℕ} {b : Bool} → Over x s w b → p ≡ path_of (map mirror (cell_of x).path) * 2 ^ 12 → cond m p w % 2 ^ 12 ≡ 0
+  over_chosen true o q = omega arith
+  over_chosen false o q = over_tidy o
 
-  pub go-over : (m : Bool) {w p : ℕ} → Over x s w true → m ≡ mirrored (solidOf (solid x)) (side_of s) (face x) →
-      p ≡ pathOf (map mirror (cell_of x).path) * 2 ^ 12 →
-      joined (solid x) (nextFace (solidOf (solid x)) (side_of s) (face x)) (cond m p w / 2 ^ 12) (depth x) ≡ stepCode s x
-  go-over true {w} {p} o e q = go-mirrored o (sym e) p q
-  go-over false o e q = go-straight o (sym e)
+  pub go_over : (m : Bool) {w p : ℕ} → Over x s w true → m ≡ mirrored (solid_of (solid x)) (side_of s) (face x) →
+      p ≡ path_of (map mirror (cell_of x).path) * 2 ^ 12 →
+      joined (solid x) (next_face (solid_of (solid x)) (side_of s) (face x)) (cond m p w / 2 ^ 12) (depth x) ≡ step_code s x
+  go_over true {w} {p} o e q = go_mirrored o (sym e) p q
+  go_over false o e q = go_straight o (sym e)

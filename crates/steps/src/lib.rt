@@ -7,9 +7,9 @@ ghost use Rattle.solids.specs.Triangles.{side_of};
 ghost use Rattle.geometry.specs.Parts.{Part};
 ghost use Rattle.codes.specs.Codes.{solid, face, path, depth, joined, Code, cell_of};
 ghost use Rattle.codes.specs.Calls.{ParentOf};
-ghost use Rattle.steps.specs.Stepped.{stepFaults, Stepped, stepCode};
+ghost use Rattle.steps.specs.Stepped.{step_faults, Stepped, step_code};
 ghost use Rattle.steps.specs.Words.{Over};
-ghost use Rattle.steps.specs.Edges.{backNo, StepLaws};
+ghost use Rattle.steps.specs.Edges.{back_no, StepLaws};
 
 use refusals::Answer;
 
@@ -47,7 +47,7 @@ fn choose(first: bool, a: u64, b: u64) -> u64
 // The neighbour's code over a seam; `word` is what the walk left of the path.
 fn over_seam(code: u64, side: u64, word: u64) -> u64
     requires { Code code × (side < 3) × Over code side word true }
-    ensures { result ≡ stepCode side code }
+    ensures { result ≡ step_code side code }
 {
     let solid = codes::solid_of(code);
     let face = codes::face_of(code);
@@ -60,7 +60,7 @@ fn over_seam(code: u64, side: u64, word: u64) -> u64
 // The neighbour's code, by carries.
 pub fn step_of(code: u64, side: u64) -> u64
     requires { Code code × (side < 3) }
-    ensures { result ≡ stepCode side code }
+    ensures { result ≡ step_code side code }
 {
     let old = word_of(code);
     let carried = carry::carry(side, old, codes::depth_of(code));
@@ -74,7 +74,7 @@ pub fn step_of(code: u64, side: u64) -> u64
 // The neighbour's code, by digits.
 pub fn walk_of(code: u64, side: u64) -> u64
     requires { Code code × (side < 3) }
-    ensures { result ≡ stepCode side code }
+    ensures { result ≡ step_code side code }
 {
     let depth = codes::depth_of(code);
     let unused = 52 - 2 * depth;
@@ -88,7 +88,7 @@ pub fn walk_of(code: u64, side: u64) -> u64
 
 // The first fault of a code and a direction, 1 to 5, or 0 where there is none.
 fn fault_of(code: u64, direction: u64) -> u64
-    ensures { stepFaults (λ k. k) code direction (λ n. n ≡ 0) result }
+    ensures { step_faults (λ k. k) code direction (λ n. n ≡ 0) result }
 {
     let n = codes::check(code);
     if n != 0 {
@@ -131,7 +131,7 @@ pub fn the_step_has_one_answer()
 
 // Left undoes right, right undoes left, vertical undoes itself.
 pub fn a_step_back_undoes_a_step()
-    ensures { (x s y : ℕ) → Stepped x s (done y) → Stepped y (backNo s) (done x) }
+    ensures { (x s y : ℕ) → Stepped x s (done y) → Stepped y (back_no s) (done x) }
 {}
 
 // Where a cell's side in one direction is part of its parent's side in that direction, the parent of the cell across is the
@@ -142,5 +142,5 @@ pub fn the_parent_steps_along()
 
 // The laws of the step that a mesh rests on, for every solid.
 pub fn the_step_has_the_laws_of_a_mesh()
-    ensures { (S : ℕ) → StepLaws S stepCode }
+    ensures { (S : ℕ) → StepLaws S step_code }
 {}

@@ -3,7 +3,7 @@
 
 ghost use Rattle.std.specs.Prelude.{◌≡◌, ◌+◌, ◌<◌, ◌≤◌, length, take, drop};
 ghost use Rattle.text.specs.Text.{Put, Digit, Reads};
-ghost use Rattle.text.specs.Text.{glyph as Text·glyph, digits as Text·digits};
+ghost use Rattle.text.specs.Text.{glyph, digits};
 
 // A number that stands in a text, or another form.
 #[derive(Drop)]
@@ -27,7 +27,7 @@ pub fn put(page: &mut [u8], at: usize, text: &[u8]) -> usize
 
 fn glyph(digit: u64) -> u8
     requires { digit < 16 }
-    ensures { result ≡ Text·glyph digit }
+    ensures { result ≡ glyph digit }
 {
     if digit < 10 {
         48 + digit as u8
@@ -39,7 +39,7 @@ fn glyph(digit: u64) -> u8
 // Puts the last digits of a number in, so many of them, in a base up to 16.
 pub fn put_digits(page: &mut [u8], at: usize, base: u64, count: usize, number: u64) -> usize
     requires { (0 < base) × (base ≤ 16) × (at + count ≤ length page.old) }
-    ensures { Put page.old page.new at result (Text·digits base count number) }
+    ensures { Put page.old page.new at result (digits base count number) }
 {
     let mut rest = number;
     let mut i = count;

@@ -8,20 +8,20 @@ use borrow.Author.Tests.{eqb-true, eqb-false}
 use lib.Bits.{bit_and, and_mask}
 use lib.Dec.{eqb}
 use lib.Pow.{pow_mono}
-use Rattle.solids.specs.Solids.{Known, solidOf, faces}
-use Rattle.solids.proofs.Numbers.{faces-few}
+use Rattle.solids.specs.Solids.{Known, solid_of, faces}
+use Rattle.solids.proofs.Numbers.{faces_few}
 use Rattle.refusals.specs.Answers.{Tells}
 use Rattle.codes.specs.Codes.{depth, size}
 use Rattle.codes.specs.Places.{place, base, end}
-use Rattle.codes.proofs.Sizes.{size-pos, size-two}
+use Rattle.codes.proofs.Sizes.{size_pos, size_two}
 use Rattle.soundness.specs.Regions.{InFaces}
 use Rattle.soundness.specs.Inner.{Gap}
 use Rattle.tiling.specs.Tiling.{Begins}
 
 -- the face of p is not in the set: nothing of the set up to the next face
-pub face-gap : (Q p : ℕ) → (InFaces Q p → ⊥) → Gap Q p ((p / 2 ^ 52 + 1) * 2 ^ 52)
+pub face_gap : (Q p : ℕ) → (InFaces Q p → ⊥) → Gap Q p ((p / 2 ^ 52 + 1) * 2 ^ 52)
 unfolding InFaces
-face-gap Q p n =
+face_gap Q p n =
     record {
       to = omega arith;
       none = λ g l h i.
@@ -29,34 +29,34 @@ face-gap Q p n =
           n (subst (λ (f : ℕ). Q / 2 ^ (f % 32) % 2 ≡ 1) e i);
     }
 
-pub size-bits : (d : ℕ) → d ≤ 26 → 1 * 2 ^ (52 - 2 * d) % 2 ^ 64 ≡ size d
-size-bits d h =
+pub size_bits : (d : ℕ) → d ≤ 26 → 1 * 2 ^ (52 - 2 * d) % 2 ^ 64 ≡ size d
+size_bits d h =
     let l : 2 ^ (52 - 2 * d) ≤ 2 ^ 52 = pow_mono {i = 52 - 2 * d} {j = 52} (omega arith) in
-    omega (arith, size-two d h)
+    omega (arith, size_two d h)
 
-pub some-places : {k : ℕ} (d : ℕ) → k ≡ size d → 0 < k
-some-places {k} d e = omega (arith, size-pos d)
+pub some_places : {k : ℕ} (d : ℕ) → k ≡ size d → 0 < k
+some_places {k} d e = omega (arith, size_pos d)
 
 -- the mask of the digits after the last
-tail-mask : (g d k : ℕ) → d ≤ 26 → k ≡ size d → bit_and g (k - 1) ≡ g % size d
-tail-mask g d k h e =
-    let t : k ≡ 2 ^ (52 - 2 * d) = e ∙ size-two d h in
-    ap (λ (m : ℕ). bit_and g (m - 1)) t ∙ and_mask g (52 - 2 * d) ∙ ap (λ (m : ℕ). g % m) (sym (size-two d h))
+tail_mask : (g d k : ℕ) → d ≤ 26 → k ≡ size d → bit_and g (k - 1) ≡ g % size d
+tail_mask g d k h e =
+    let t : k ≡ 2 ^ (52 - 2 * d) = e ∙ size_two d h in
+    ap (λ (m : ℕ). bit_and g (m - 1)) t ∙ and_mask g (52 - 2 * d) ∙ ap (λ (m : ℕ). g % m) (sym (size_two d h))
 
-pub begins-test : (x g k : ℕ) → place x ≡ g → depth x ≤ 26 → k ≡ size (depth x) → Tells (eqb (bit_and g (k - 1)) 0) (Begins x g)
-begins-test x g k e h s =
-    let t : bit_and g (k - 1) ≡ place x % size (depth x) = tail-mask g (depth x) k h s ∙ ap (λ (m : ℕ). m % size (depth x)) (sym e) in
+pub begins_test : (x g k : ℕ) → place x ≡ g → depth x ≤ 26 → k ≡ size (depth x) → Tells (eqb (bit_and g (k - 1)) 0) (Begins x g)
+begins_test x g k e h s =
+    let t : bit_and g (k - 1) ≡ place x % size (depth x) = tail_mask g (depth x) k h s ∙ ap (λ (m : ℕ). m % size (depth x)) (sym e) in
     record {
       yes = λ b. record { at = e; deep = h; tail = sym t ∙ eqb-true (bit_and g (k - 1)) 0 b };
       no = λ b w. eqb-false (bit_and g (k - 1)) 0 b (t ∙ w.tail);
     }
 
-pub end-facts : (S e : ℕ) → Known S → e ≡ end S → (base S ≤ e) × (e < 2 ^ 60) × (e % 2 ^ 52 ≡ 0)
-end-facts S e h k =
-    let f : ℕ = faces (solidOf S) in
+pub end_facts : (S e : ℕ) → Known S → e ≡ end S → (base S ≤ e) × (e < 2 ^ 60) × (e % 2 ^ 52 ≡ 0)
+end_facts S e h k =
+    let f : ℕ = faces (solid_of S) in
     let m : e ≡ (S * 32 + f) * 2 ^ 52 = omega arith in
-    (omega arith, omega (arith, faces-few (solidOf S), h.1), ap (λ (n : ℕ). n % 2 ^ 52) m ∙ mul-mod_left (S * 32 + f) (2 ^ 52))
+    (omega arith, omega (arith, faces_few (solid_of S), h.1), ap (λ (n : ℕ). n % 2 ^ 52) m ∙ mul-mod_left (S * 32 + f) (2 ^ 52))
 
 -- the ends of a solid, from its number and the number of its faces
-pub ends : (S f : ℕ) → Known S → f ≡ faces (solidOf S) → (S * 2 ^ 57 % 2 ^ 64 ≡ base S) × (S * 2 ^ 57 % 2 ^ 64 + f * 2 ^ 52 % 2 ^ 64 ≡ end S)
-ends S f h e = let b : S * 2 ^ 57 % 2 ^ 64 ≡ base S = omega (arith, h.1) in (b, omega (arith, faces-few (solidOf S)))
+pub ends : (S f : ℕ) → Known S → f ≡ faces (solid_of S) → (S * 2 ^ 57 % 2 ^ 64 ≡ base S) × (S * 2 ^ 57 % 2 ^ 64 + f * 2 ^ 52 % 2 ^ 64 ≡ end S)
+ends S f h e = let b : S * 2 ^ 57 % 2 ^ 64 ≡ base S = omega (arith, h.1) in (b, omega (arith, faces_few (solid_of S)))

@@ -1,9 +1,9 @@
 -- How answers cross to C.
 --
---   oneNumber a    == an answer as one number: the code, or else the refusal's
---   Gives Q n      == n is that one number for an answer whose reply meets Q
---   Writes x n out == n is the number, and out the four values, of the reply for unpacking x
---   toldSide n d b c, toldPart n a m == the answers of across and run from their parts
+--   one_number a                       == an answer as one number: the code, or else the refusal's
+--   Gives Q n                          == n is that one number for an answer whose reply meets Q
+--   Writes x n out                     == n is the number, and out the four values, of the reply for unpacking x
+--   told_side n d b c, told_part n a m == the answers of across and run from their parts
 --
 -- Assumes nothing.
 use Rattle.std.specs.Prelude.{List, [], ◌∷◌, ◌≡◌, ℕ, ℤ}
@@ -14,14 +14,14 @@ use Rattle.codes.specs.Calls.{Unpacking, Unpacked}
 use Rattle.mesh.specs.Answers.{Crossing, Part}
 
 -- "It gets one number, the code or else the refusal's."
-abbrev pub oneNumber : Answer → ℕ
-oneNumber (Code c) = c
-oneNumber (Refused k) = k
+abbrev pub one_number : Answer → ℕ
+one_number (Code c) = c
+one_number (Refused k) = k
 
 pub record Gives (Q : Reply → Type 0) (n : ℕ) : Type 0 where
   pub answer : Answer
   pub meets : Q (reply answer)
-  pub is : n ≡ oneNumber answer
+  pub is : n ≡ one_number answer
 
 abbrev pub values : Unpacking → List ℕ
 values u = u.solid ∷ u.face ∷ u.path ∷ u.depth ∷ []
@@ -33,8 +33,8 @@ pub record Writes (x n : ℕ) (out : List ℕ) : Type 0 where
   pub slots : out ≡ values answer
 
 -- the number is returned, the other parts are written
-abbrev pub toldSide : ℕ → ℤ → ℕ → ℕ → Crossing
-toldSide n d b c = record { number = n; level = d; first = b; second = c }
+abbrev pub told_side : ℕ → ℤ → ℕ → ℕ → Crossing
+told_side n d b c = record { number = n; level = d; first = b; second = c }
 
-abbrev pub toldPart : ℕ → ℕ → ℕ → Part
-toldPart n a m = record { number = n; start = a; count = m }
+abbrev pub told_part : ℕ → ℕ → ℕ → Part
+told_part n a m = record { number = n; start = a; count = m }

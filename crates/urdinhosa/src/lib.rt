@@ -7,19 +7,19 @@ ghost use Rattle.codes.specs.Codes.{Code};
 ghost use Rattle.codes.specs.Calls.{Packed, ParentOf, ChildOf};
 ghost use Rattle.points.specs.Located.{Located};
 ghost use Rattle.steps.specs.Stepped.{Stepped};
-ghost use Rattle.soundness.specs.Regions.{allFaces};
+ghost use Rattle.soundness.specs.Regions.{all_faces};
 ghost use Rattle.soundness.specs.Soundness.{SoundIn};
 ghost use Rattle.examine.specs.Examined.{whole_of};
-ghost use Rattle.mesh.specs.Answers.{outcome, told, crossing, acrossReply};
+ghost use Rattle.mesh.specs.Answers.{outcome, told, crossing, across_reply};
 ghost use Rattle.mesh.specs.Calls.{Freshened, Refined, Coarsened, AcrossOf, BoundsOf};
-ghost use Rattle.urdinhosa.specs.Exports.{oneNumber, Gives, Writes, toldSide, toldPart};
+ghost use Rattle.urdinhosa.specs.Exports.{one_number, Gives, Writes, told_side, told_part};
 
 use mesh::{Extent, Facing};
 use refusals::Answer;
 use soundness::Met;
 
 fn one_number(answer: Answer) -> u64
-    ensures { result ≡ oneNumber answer }
+    ensures { result ≡ one_number answer }
 {
     match answer {
         Answer::Code(code) => code,
@@ -103,7 +103,7 @@ pub extern "C" fn urdinhosa_sound(slots: &[u64]) -> bool
 
 #[unsafe(no_mangle)]
 pub extern "C" fn urdinhosa_fresh(slots: &mut [u64], solid: u64) -> u64
-    ensures { Freshened solid (allFaces solid) slots.old (outcome (told result 0) slots.new) }
+    ensures { Freshened solid (all_faces solid) slots.old (outcome (told result 0) slots.new) }
 {
     mesh::in_parts(mesh::fresh(slots, solid)).number
 }
@@ -136,7 +136,7 @@ struct Side {
 }
 
 fn side_in_parts(met: Met) -> Side
-    ensures { toldSide result.number result.level result.first result.second ≡ crossing met }
+    ensures { told_side result.number result.level result.first result.second ≡ crossing met }
 {
     match met {
         Met::Larger(leaf) => Side {
@@ -167,7 +167,7 @@ fn side_in_parts(met: Met) -> Side
 }
 
 fn facing_in_parts(facing: Facing) -> Side
-    ensures { toldSide result.number result.level result.first result.second ≡ acrossReply facing }
+    ensures { told_side result.number result.level result.first result.second ≡ across_reply facing }
 {
     match facing {
         Facing::Side(met) => side_in_parts(met),
@@ -189,7 +189,7 @@ pub extern "C" fn urdinhosa_across(
     first: &mut u64,
     second: &mut u64,
 ) -> u64
-    ensures { AcrossOf (whole_of slots.now) slots.now leaf direction (toldSide result level.new first.new second.new) }
+    ensures { AcrossOf (whole_of slots.now) slots.now leaf direction (told_side result level.new first.new second.new) }
 {
     let answer = facing_in_parts(mesh::across(slots, leaf, direction));
     let difference = answer.level;
@@ -206,7 +206,7 @@ pub extern "C" fn urdinhosa_run(
     start: &mut usize,
     count: &mut usize,
 ) -> u64
-    ensures { BoundsOf (whole_of slots.now) slots.now cell (toldPart result start.new count.new) }
+    ensures { BoundsOf (whole_of slots.now) slots.now cell (told_part result start.new count.new) }
 {
     match mesh::bounds(slots, cell) {
         Extent::Part(from, leaves) => {

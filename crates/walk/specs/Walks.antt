@@ -1,20 +1,20 @@
 -- The walk of the step by digits, on numbers: directions, digits and paths as the code has them.
 --
---   newDigit s d    == the number that the digit d is replaced by in direction s
---   turn_of s d      == what the walk does at the digit d in direction s: it stops or climbs, with that number
+--   new_digit s d   == the number that the digit d is replaced by in direction s
+--   turn_of s d     == what the walk does at the digit d in direction s: it stops or climbs, with that number
 --   Walks s p d r x == of the path of d digits and number p the walk in direction s makes the path of number r, and x tells
 --                      whether it passes the first digit
 --
 -- Assumes nothing.
 use Rattle.std.specs.Prelude.{Bool, cond, ◌≡◌, ℕ}
 use Rattle.solids.specs.Triangles.{side_of}
-use Rattle.geometry.specs.Paths.{digitNo, digitOf, number, digits}
+use Rattle.geometry.specs.Paths.{digit_no, digit_of, number, digits}
 use Rattle.geometry.specs.Steps.{stops, replaced, walked, crosses}
 use Rattle.walk.specs.declared.Turn.{Turn}
 use Rattle.walk.specs.declared.Turn.TheVariants.{Stop, Climb}
 
-abbrev pub newDigit : ℕ → ℕ → ℕ
-newDigit s d = digitNo (replaced (side_of s) (digitOf d))
+abbrev pub new_digit : ℕ → ℕ → ℕ
+new_digit s d = digit_no (replaced (side_of s) (digit_of d))
 
 -- The table of "The step by digits":
 --
@@ -23,7 +23,7 @@ newDigit s d = digitNo (replaced (side_of s) (digitOf d))
 --   1 right    | 01 to 10, 10 to 11 | 00 to 01, 11 to 00
 --   2 vertical | 00 to 10, 10 to 00 | 01, 11 kept
 unfoldable pub turn_of : ℕ → ℕ → Turn
-turn_of s d = cond (stops (side_of s) (digitOf d)) (Stop (newDigit s d)) (Climb (newDigit s d))
+turn_of s d = cond (stops (side_of s) (digit_of d)) (Stop (new_digit s d)) (Climb (new_digit s d))
 
 -- "From the last digit upwards [..]: a stopping digit is replaced and the walk ends; another is replaced and the walk
 -- climbs. [..] A walk that passes the first digit crosses a seam [..]."

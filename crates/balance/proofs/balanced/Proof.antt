@@ -6,9 +6,9 @@ use borrow.Author.Count.{below_none, below_more}
 use borrow.Author.Rules.{rules}
 use borrow.Author.Tests.{not-true, not-false}
 use lib.ListN.{get_or, take}
-use Rattle.refusals.proofs.Answers.{tells-yes, tells-no}
+use Rattle.refusals.proofs.Answers.{tells_yes, tells_no}
 use Rattle.balance.specs.Tiled.{SidesFine}
-use Rattle.balance.proofs.Tiled.{slot-tiled}
+use Rattle.balance.proofs.Tiled.{slot_tiled}
 use Rattle.balance.proofs.Rows.{rows_all, rows_at}
 use Rattle.balance.proofs.balanced.Statement.{statement}
 use Rattle.balance.proofs.balanced.Tie as tie
@@ -32,13 +32,13 @@ sides-fine-requires : tie.Need-sides-fine-requires invariant-loop decreases-loop
 sides-fine-requires c κs =
     let s = c.before.before.before.before in
     let l = c.before.before.loop in
-    (s.requires.0, slot-tiled s.args.faces s.args.slots.now s.args.n s.requires.0 l.i (omega arith) s.requires.1)
+    (s.requires.0, slot_tiled s.args.faces s.args.slots.now s.args.n s.requires.0 l.i (omega arith) s.requires.1)
 
 returns : tie.Need-returns invariant-loop decreases-loop
 returns c =
     let s = c.before.before.before.before.before.before in
     let l = c.before.before.before.before.loop in
-    tells-no
+    tells_no
     (λ r. c.before.sides-fine.ensures.no (not-true _ c.if1.true)
     (rows_at s.args.faces s.args.slots.now s.args.n s.requires.0 r l.i (omega arith)))
 
@@ -56,7 +56,7 @@ loop-again c =
 returns-2 : tie.Need-returns-2 invariant-loop decreases-loop
 returns-2 c =
     let s = c.before.before.before in
-    tells-yes (rows_all s.args.faces s.args.slots.now s.args.n s.requires.0 (λ k h. c.before.loop.invariant.0 k (omega arith)))
+    tells_yes (rows_all s.args.faces s.args.slots.now s.args.n s.requires.0 (λ k h. c.before.loop.invariant.0 k (omega arith)))
 
 pub balanced-spec : {M : Type 1} → statement M
 balanced-spec =

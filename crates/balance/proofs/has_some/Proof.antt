@@ -9,22 +9,22 @@ use lib.Dec.{eqb}
 use lib.ListN.{length, get_or, take}
 use lib.Seq.{get_or-take, length-take-le}
 use Rattle.refusals.specs.Answers.{Tells}
-use Rattle.refusals.proofs.Answers.{tells-no}
+use Rattle.refusals.proofs.Answers.{tells_no}
 use Rattle.codes.specs.Places.{place}
 use Rattle.soundness.specs.Inner.{Present}
-use Rattle.balance.proofs.Tiled.{tiled-covers}
-use Rattle.balance.proofs.Presence.{present-tells, present-none}
+use Rattle.balance.proofs.Tiled.{tiled_covers}
+use Rattle.balance.proofs.Presence.{present_tells, present_none}
 use Rattle.balance.proofs.has_some.Statement.{statement}
 use Rattle.balance.proofs.has_some.Tie as tie
 
 below-near-requires : tie.Need-below-near-requires
-below-near-requires c κs = (c.before.requires.0, (tiled-covers c.before.requires.1.tiled).ascend)
+below-near-requires c κs = (c.before.requires.0, (tiled_covers c.before.requires.1.tiled).ascend)
 
 returns : tie.Need-returns
 returns c =
     let s = c.before.before.before in
     let l = length-take-le s.args.n s.args.slots.now s.requires.0 in
-    tells-no (present-none _ s.args.code c.before.below-near.result s.requires.1 c.before.below-near.ensures (omega arith))
+    tells_no (present_none _ s.args.code c.before.below-near.result s.requires.1 c.before.below-near.ensures (omega arith))
 
 mul-result : tie.Need-overflow-mul-result
 mul-result c =
@@ -48,7 +48,7 @@ returns-2 c =
     let l = length-take-le a.n a.slots.now s.requires.0 in
     let h : i < length L = omega (arith, b.upto) in
     let e : get_or L i 0 ≡ get_or a.slots.now i 0 = get_or-take a.n a.slots.now i 0 (omega arith) in
-    subst (λ (x : ℕ). Tells (eqb (place x) (place a.code)) (Present L a.code)) e (present-tells L a.code i s.requires.1 b h)
+    subst (λ (x : ℕ). Tells (eqb (place x) (place a.code)) (Present L a.code)) e (present_tells L a.code i s.requires.1 b h)
 
 pub has-some-spec : {M : Type 1} → statement M
 has-some-spec =

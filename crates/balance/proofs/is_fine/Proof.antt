@@ -4,8 +4,8 @@ use mathlib.Core.Logic.{inl}
 use borrow.Author.Rules.{rules}
 use borrow.Author.Tests.{not-true, not-false}
 use lib.ListN.{take}
-use Rattle.refusals.proofs.Answers.{tells-yes}
-use Rattle.balance.proofs.Presence.{fine-tells}
+use Rattle.refusals.proofs.Answers.{tells_yes}
+use Rattle.balance.proofs.Presence.{fine_tells}
 use Rattle.balance.proofs.is_fine.Statement.{statement}
 use Rattle.balance.proofs.is_fine.Tie as tie
 
@@ -13,7 +13,7 @@ in-faces-requires : tie.Need-in-faces-requires
 in-faces-requires c κs = search rules
 
 returns : tie.Need-returns
-returns c = tells-yes (inl (c.before.in-faces.ensures.no (not-true _ c.if1.true)))
+returns c = tells_yes (inl (c.before.in-faces.ensures.no (not-true _ c.if1.true)))
 
 has-some-requires : tie.Need-has-some-requires
 has-some-requires c κs =
@@ -24,7 +24,7 @@ returns-2 : tie.Need-returns-2
 returns-2 c =
     let a = c.before.before.before.before.args in
     let here = c.before.before.in-faces.ensures.yes (not-false _ c.before.if1.false) in
-    fine-tells a.faces (take a.n a.slots.now) a.code here c.has_some.ensures
+    fine_tells a.faces (take a.n a.slots.now) a.code here c.has_some.ensures
 
 pub is-fine-spec : {M : Type 1} → statement M
 is-fine-spec = tie.close (tie.spec in-faces-requires returns has-some-requires returns-2)

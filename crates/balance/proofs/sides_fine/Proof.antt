@@ -5,8 +5,8 @@ use Prim.Native.Nat.{ℕ}
 use native.Mathlib.Omega.{arith}
 use borrow.Author.Rules.{rules}
 use lib.ListN.{take}
-use Rattle.refusals.proofs.Answers.{tells-yes}
-use Rattle.balance.proofs.Asked.{row-0000, row-0000-no, row-0100, row-1100, row-0101-1101, row_other}
+use Rattle.refusals.proofs.Answers.{tells_yes}
+use Rattle.balance.proofs.Asked.{row_0000, row_0000_no, row_0100, row_1100, row_0101_1101, row_other}
 use Rattle.balance.proofs.sides_fine.Statement.{statement}
 use Rattle.balance.proofs.sides_fine.Tie as tie
 
@@ -14,7 +14,7 @@ depth-of-requires : tie.Need-depth-of-requires
 depth-of-requires c κs = search rules
 
 returns : tie.Need-returns
-returns c = tells-yes (λ s q. absurd (omega (arith, q.two)))
+returns c = tells_yes (λ s q. absurd (omega (arith, q.two)))
 
 last-two-requires : tie.Need-last-two-requires
 last-two-requires c κs = search rules
@@ -39,23 +39,23 @@ returns-2 c =
     let s = c.before.before.before.before.before.before.before.before in
     let t = c.before.before.before.before.last-two in
     let L : List ℕ = take s.args.n s.args.slots.now in
-    row-0000 s.args.leaf t.result t.ensures s.args.faces L (omega arith)
+    row_0000 s.args.leaf t.result t.ensures s.args.faces L (omega arith)
     c.before.before.before.match.keys1 (c.before.before.side-fine.ensures.yes c.before.if2.true) c.side-fine2.ensures
 
-returns-3 : tie.Need-returns-3
-returns-3 c =
+returns_3 : tie.Need-returns-3
+returns_3 c =
     let s = c.before.before.before.before.before.before.before in
     let t = c.before.before.before.last-two in
     let L : List ℕ = take s.args.n s.args.slots.now in
-    row-0000-no s.args.leaf t.result t.ensures s.args.faces L (omega arith)
+    row_0000_no s.args.leaf t.result t.ensures s.args.faces L (omega arith)
     c.before.before.match.keys1 c.if2.false c.before.side-fine.ensures
 
-returns-4 : tie.Need-returns-4
-returns-4 c =
+returns_4 : tie.Need-returns-4
+returns_4 c =
     let s = c.before.before.before.before.before.before in
     let t = c.before.before.last-two in
     let L : List ℕ = take s.args.n s.args.slots.now in
-    row-0100 s.args.leaf t.result t.ensures s.args.faces L (omega arith)
+    row_0100 s.args.leaf t.result t.ensures s.args.faces L (omega arith)
     c.before.match.keys2 c.side-fine3.ensures
 
 returns-5 : tie.Need-returns-5
@@ -63,7 +63,7 @@ returns-5 c =
     let s = c.before.before.before.before.before.before in
     let t = c.before.before.last-two in
     let L : List ℕ = take s.args.n s.args.slots.now in
-    row-1100 s.args.leaf t.result t.ensures s.args.faces L (omega arith)
+    row_1100 s.args.leaf t.result t.ensures s.args.faces L (omega arith)
     c.before.match.keys3 c.side-fine4.ensures
 
 returns-6 : tie.Need-returns-6
@@ -71,7 +71,7 @@ returns-6 c =
     let s = c.before.before.before.before.before.before in
     let t = c.before.before.last-two in
     let L : List ℕ = take s.args.n s.args.slots.now in
-    row-0101-1101 s.args.leaf t.result t.ensures s.args.faces L (omega arith)
+    row_0101_1101 s.args.leaf t.result t.ensures s.args.faces L (omega arith)
     c.before.match.keys4 c.side-fine5.ensures
 
 returns-7 : tie.Need-returns-7
@@ -80,7 +80,7 @@ returns-7 c =
     let t = c.before.last-two in
     let L : List ℕ = take s.args.n s.args.slots.now in
     let r = c.match.rest in
-    tells-yes (row_other s.args.leaf t.result t.ensures s.args.faces L r.0.0.0.1 r.0.0.1 r.0.1 r.1)
+    tells_yes (row_other s.args.leaf t.result t.ensures s.args.faces L r.0.0.0.1 r.0.0.1 r.0.1 r.1)
 
 pub sides-fine-spec : {M : Type 1} → statement M
 sides-fine-spec =
@@ -95,8 +95,8 @@ sides-fine-spec =
     side-fine-requires-4
     side-fine-requires-5
     returns-2
-    returns-3
-    returns-4
+    returns_3
+    returns_4
     returns-5
     returns-6
     returns-7)

@@ -2,7 +2,7 @@
 -- Assumes nothing.
 use Rattle.std.proofs.Common.{rules}
 use Rattle.solids.specs.Triangles.{side_of}
-use Rattle.carry.proofs.Carries.{by-carries, right-mask, vertical-mask}
+use Rattle.carry.proofs.Carries.{by_carries, right_mask, vertical_mask}
 use Rattle.carry.proofs.carry.Statement.{statement}
 use Rattle.carry.proofs.carry.Tie as tie
 
@@ -25,10 +25,10 @@ returns c =
     let right = c.before.before.before.wrapping-sub-u64 in
     let b = c.before.before.before.before in
     let a = b.args in
-    by-carries a.path tail.result right.result vertical.result c.wrapping-add-u64.result
+    by_carries a.path tail.result right.result vertical.result c.wrapping-add-u64.result
     (side_of a.side) a.depth b.requires.1 b.ranges.path.fits b.requires.2 tail.ensures
-    (right-mask a.side right.result b.requires.0 right.type-inv right.ensures)
-    (vertical-mask a.side vertical.result b.requires.0 vertical.type-inv vertical.ensures)
+    (right_mask a.side right.result b.requires.0 right.type-inv right.ensures)
+    (vertical_mask a.side vertical.result b.requires.0 vertical.type-inv vertical.ensures)
     c.wrapping-add-u64.ensures
 
 pub carry-spec : {M : Type 1} → statement M

@@ -23,7 +23,7 @@ returns : tie.Need-returns
 returns c =
     rw (
       c.before.before.before.before.solid-of.ensures,
-      c.before.before.before.face-of.ensures,
+      c.before.before.before.face_of_lem.ensures,
       c.before.before.path-of.ensures,
       c.before.depth-of.ensures,
     ) at c.fault.ensures

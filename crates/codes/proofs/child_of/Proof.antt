@@ -2,7 +2,7 @@
 -- Assumes nothing.
 use native.Mathlib.Omega.{arith}
 use borrow.Author.Rules.{rules}
-use Rattle.codes.proofs.Family.{child-bits}
+use Rattle.codes.proofs.Family.{child_bits}
 use Rattle.codes.proofs.child_of.Statement.{statement}
 use Rattle.codes.proofs.child_of.Tie as tie
 
@@ -22,19 +22,19 @@ add-result : tie.Need-overflow-add-result
 add-result c =
     let b = c.before in
     let a = b.args in
-    omega (arith, child-bits a.code a.digit c.depth-of.result b.requires.0 (omega arith) c.depth-of.ensures (omega arith))
+    omega (arith, child_bits a.code a.digit c.depth-of.result b.requires.0 (omega arith) c.depth-of.ensures (omega arith))
 
 add-result-2 : tie.Need-overflow-add-result-2
 add-result-2 c =
     let b = c.before in
     let a = b.args in
-    omega (arith, child-bits a.code a.digit c.depth-of.result b.requires.0 (omega arith) c.depth-of.ensures (omega arith))
+    omega (arith, child_bits a.code a.digit c.depth-of.result b.requires.0 (omega arith) c.depth-of.ensures (omega arith))
 
 returns : tie.Need-returns
 returns c =
     let b = c.before in
     let a = b.args in
-    (child-bits a.code a.digit c.depth-of.result b.requires.0 (omega arith) c.depth-of.ensures (omega arith)).0
+    (child_bits a.code a.digit c.depth-of.result b.requires.0 (omega arith) c.depth-of.ensures (omega arith)).0
 
 pub child-of-spec : {M : Type 1} → statement M
 child-of-spec =

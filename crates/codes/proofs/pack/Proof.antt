@@ -4,8 +4,8 @@ use mathlib.Core.Path.{◌≡◌, ap}
 use native.Mathlib.Omega.{arith}
 use borrow.Author.Rules.{rules}
 use Rattle.refusals.specs.Answers.{refused, done}
-use Rattle.solids.specs.Solids.{solidOf}
-use Rattle.solids.proofs.Numbers.{faces-few}
+use Rattle.solids.specs.Solids.{solid_of}
+use Rattle.solids.proofs.Numbers.{faces_few}
 use Rattle.codes.specs.Codes.{Formed, joined}
 use Rattle.codes.proofs.Faults.{refuses, go_on, formed}
 use Rattle.codes.proofs.pack.Statement.{statement}
@@ -24,7 +24,7 @@ join-requires : tie.Need-join-requires
 join-requires c κs =
     let a = c.before.before.args in
     let h : Formed a.solid a.face a.path a.depth = formed a.solid a.face a.path a.depth c.before.fault.ensures c.if1.false in
-    (omega (arith, h.known), omega (arith, h.on, faces-few (solidOf a.solid)), h.tail.0, omega (arith, h.deep))
+    (omega (arith, h.known), omega (arith, h.on, faces_few (solid_of a.solid)), h.tail.0, omega (arith, h.deep))
 
 returns-2 : tie.Need-returns-2
 returns-2 c =

@@ -2,7 +2,7 @@
 -- Assumes nothing.
 use native.Mathlib.Omega.{arith}
 use borrow.Author.Rules.{rules}
-use Rattle.codes.proofs.Family.{parent-bits}
+use Rattle.codes.proofs.Family.{parent_bits}
 use Rattle.codes.proofs.parent_of.Statement.{statement}
 use Rattle.codes.proofs.parent_of.Tie as tie
 
@@ -27,7 +27,7 @@ sub-result c = search rules
 returns : tie.Need-returns
 returns c =
     let b = c.before in
-    parent-bits b.args.code c.depth-of.result b.requires.0 c.depth-of.ensures (omega arith)
+    parent_bits b.args.code c.depth-of.result b.requires.0 c.depth-of.ensures (omega arith)
 
 pub parent-of-spec : {M : Type 1} → statement M
 parent-of-spec =

@@ -3,8 +3,8 @@
 use mathlib.Core.Path.{◌≡◌}
 use borrow.Author.Rules.{rules}
 use Rattle.codes.specs.Codes.{solid, face, path, depth}
-use Rattle.codes.specs.Calls.{notUnpacked, unpacked}
-use Rattle.codes.proofs.Faults.{code-refused, code-on, code-is-formed}
+use Rattle.codes.specs.Calls.{not_unpacked, unpacked}
+use Rattle.codes.proofs.Faults.{code_refused, code_on, code_is_formed}
 use Rattle.codes.proofs.unpack.Statement.{statement}
 use Rattle.codes.proofs.unpack.Tie as tie
 
@@ -14,7 +14,7 @@ check-requires c κs = search rules
 returns : tie.Need-returns
 returns c =
     let x = c.before.before.args.code in
-    code-refused notUnpacked x (λ u. u ≡ unpacked (solid x) (face x) (path x) (depth x)) c.before.check.ensures c.if1.true
+    code_refused not_unpacked x (λ u. u ≡ unpacked (solid x) (face x) (path x) (depth x)) c.before.check.ensures c.if1.true
 
 solid-of-requires : tie.Need-solid-of-requires
 solid-of-requires c κs = search rules
@@ -32,8 +32,8 @@ returns-2 : tie.Need-returns-2
 returns-2 c =
     let b = c.before.before.before.before in
     let x = b.before.before.args.code in
-    code-on notUnpacked x (λ u. u ≡ unpacked (solid x) (face x) (path x) (depth x)) (code-is-formed x b.before.check.ensures b.if1.false)
-    (rw (c.before.before.before.solid-of.ensures, c.before.before.face-of.ensures, c.before.path-of.ensures, c.depth-of.ensures))
+    code_on not_unpacked x (λ u. u ≡ unpacked (solid x) (face x) (path x) (depth x)) (code_is_formed x b.before.check.ensures b.if1.false)
+    (rw (c.before.before.before.solid-of.ensures, c.before.before.face_of_lem.ensures, c.before.path-of.ensures, c.depth-of.ensures))
 
 pub unpack-spec : {M : Type 1} → statement M
 unpack-spec =

@@ -1,7 +1,7 @@
 -- A code without a fault is well formed.
 -- Assumes nothing.
 use borrow.Author.Rules.{rules}
-use Rattle.codes.proofs.Faults.{code-is-formed}
+use Rattle.codes.proofs.Faults.{code_is_formed}
 use Rattle.corner_rule.proofs.corners_of.Statement.{statement}
 use Rattle.corner_rule.proofs.corners_of.Tie as tie
 
@@ -9,7 +9,7 @@ check-requires : tie.Need-check-requires
 check-requires c κs = search rules
 
 of-cell-requires : tie.Need-of-cell-requires
-of-cell-requires c κs = code-is-formed _ c.before.check.ensures c.if1.true
+of-cell-requires c κs = code_is_formed _ c.before.check.ensures c.if1.true
 
 returns : tie.Need-returns
 returns c = search rules

@@ -3,7 +3,7 @@
 use mathlib.Core.Path.{◌≡◌}
 use native.Mathlib.Omega.{arith}
 use Rattle.solids.specs.Triangles.{tip, lft, rgt}
-use Rattle.geometry.specs.Corners.{d00, d01, d10, d11, childCorners}
+use Rattle.geometry.specs.Corners.{d00, d01, d10, d11, child_corners}
 use Rattle.corners.specs.Arrays.{at}
 use Rattle.corners.proofs.Arrays.{three}
 use Rattle.corners.proofs.child.Statement.{statement}
@@ -49,26 +49,26 @@ returns : tie.Need-returns
 returns c =
     let a = c.before.before.before.before.before.before.before.args in
     rw c.before.before.before.match.keys1
-    (three _ (childCorners d00 (at a.of)) c.before.before.sum.ensures c.before.sum2.ensures c.sum3.ensures)
+    (three _ (child_corners d00 (at a.of)) c.before.before.sum.ensures c.before.sum2.ensures c.sum3.ensures)
 
 returns-2 : tie.Need-returns-2
 returns-2 c =
     let a = c.before.before.before.before.before.before.before.args in
     rw c.before.before.before.match.keys2
-    (three _ (childCorners d01 (at a.of)) c.before.before.sum4.ensures c.before.sum5.ensures c.sum6.ensures)
+    (three _ (child_corners d01 (at a.of)) c.before.before.sum4.ensures c.before.sum5.ensures c.sum6.ensures)
 
-returns-3 : tie.Need-returns-3
-returns-3 c =
+returns_3 : tie.Need-returns-3
+returns_3 c =
     let a = c.before.before.before.before.before.before.before.args in
     rw c.before.before.before.match.keys3
-    (three _ (childCorners d10 (at a.of)) c.before.before.sum7.ensures c.before.sum8.ensures c.sum9.ensures)
+    (three _ (child_corners d10 (at a.of)) c.before.before.sum7.ensures c.before.sum8.ensures c.sum9.ensures)
 
-returns-4 : tie.Need-returns-4
-returns-4 c =
+returns_4 : tie.Need-returns-4
+returns_4 c =
     let a = c.before.before.before.before.before.before.before.args in
     let e : a.digit ≡ 3 = omega arith in
     rw e
-    (three _ (childCorners d11 (at a.of)) c.before.before.sum10.ensures c.before.sum11.ensures c.sum12.ensures)
+    (three _ (child_corners d11 (at a.of)) c.before.before.sum10.ensures c.before.sum11.ensures c.sum12.ensures)
 
 pub child-spec : {M : Type 1} → statement M
 child-spec =
@@ -88,5 +88,5 @@ child-spec =
     sum-requires-12
     returns
     returns-2
-    returns-3
-    returns-4)
+    returns_3
+    returns_4)

@@ -5,7 +5,7 @@ use native.Mathlib.Omega.{arith}
 use borrow.Author.Rules.{rules}
 use Rattle.solids.specs.Triangles.{left, right, vertical}
 use Rattle.corners.specs.Arrays.{at}
-use Rattle.corners.proofs.Arrays.{second-tells, first-tells}
+use Rattle.corners.proofs.Arrays.{second_tells, first_tells}
 use Rattle.corners.proofs.has_side.Statement.{statement}
 use Rattle.corners.proofs.has_side.Tie as tie
 
@@ -31,39 +31,39 @@ returns : tie.Need-returns
 returns c =
     let a = c.before.before.before.before.before.before.before.args in
     rw c.before.before.before.match.keys1
-    (second-tells left (at a.of) (at a.other) c.before.before.has-corner.ensures c.before.if1.true c.has-corner2.ensures)
+    (second_tells left (at a.of) (at a.other) c.before.before.has-corner.ensures c.before.if1.true c.has-corner2.ensures)
 
 returns-2 : tie.Need-returns-2
 returns-2 c =
     let a = c.before.before.before.before.before.before.args in
     rw c.before.before.match.keys1
-    (first-tells left (at a.of) (at a.other) c.before.has-corner.ensures c.if1.false)
+    (first_tells left (at a.of) (at a.other) c.before.has-corner.ensures c.if1.false)
 
-returns-3 : tie.Need-returns-3
-returns-3 c =
+returns_3 : tie.Need-returns-3
+returns_3 c =
     let a = c.before.before.before.before.before.before.before.args in
     rw c.before.before.before.match.keys2
-    (second-tells right (at a.of) (at a.other) c.before.before.has-corner3.ensures c.before.if2.true c.has-corner4.ensures)
+    (second_tells right (at a.of) (at a.other) c.before.before.has-corner3.ensures c.before.if2.true c.has-corner4.ensures)
 
-returns-4 : tie.Need-returns-4
-returns-4 c =
+returns_4 : tie.Need-returns-4
+returns_4 c =
     let a = c.before.before.before.before.before.before.args in
     rw c.before.before.match.keys2
-    (first-tells right (at a.of) (at a.other) c.before.has-corner3.ensures c.if2.false)
+    (first_tells right (at a.of) (at a.other) c.before.has-corner3.ensures c.if2.false)
 
 returns-5 : tie.Need-returns-5
 returns-5 c =
     let a = c.before.before.before.before.before.before.before.args in
     let e : a.side ≡ 2 = omega arith in
     rw e
-    (second-tells vertical (at a.of) (at a.other) c.before.before.has-corner5.ensures c.before.if3.true c.has-corner6.ensures)
+    (second_tells vertical (at a.of) (at a.other) c.before.before.has-corner5.ensures c.before.if3.true c.has-corner6.ensures)
 
 returns-6 : tie.Need-returns-6
 returns-6 c =
     let a = c.before.before.before.before.before.before.args in
     let e : a.side ≡ 2 = omega arith in
     rw e
-    (first-tells vertical (at a.of) (at a.other) c.before.has-corner5.ensures c.if3.false)
+    (first_tells vertical (at a.of) (at a.other) c.before.has-corner5.ensures c.if3.false)
 
 pub has-side-spec : {M : Type 1} → statement M
 has-side-spec =
@@ -77,7 +77,7 @@ has-side-spec =
     has-corner-requires-6
     returns
     returns-2
-    returns-3
-    returns-4
+    returns_3
+    returns_4
     returns-5
     returns-6)

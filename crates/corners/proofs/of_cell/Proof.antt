@@ -31,13 +31,13 @@ face-of-requires c κs = search rules
 of-face-requires : tie.Need-of-face-requires invariant-loop decreases-loop
 of-face-requires c κs =
     let h = c.before.before.before.before.requires in
-    rw (c.before.solid-of.ensures, c.face-of.ensures) (h.known, h.on)
+    rw (c.before.solid-of.ensures, c.face_of_lem.ensures) (h.known, h.on)
 
 loop-holds : tie.Need-loop-init invariant-loop decreases-loop
 loop-holds c =
     let b = c.before in
     let a = b.before.before.before.before.args in
-    (omega arith, top a.code _ _ c.of-face.result b.before.solid-of.ensures b.face-of.ensures c.of-face.ensures)
+    (omega arith, top a.code _ _ c.of-face.result b.before.solid-of.ensures b.face_of_lem.ensures c.of-face.ensures)
 
 add-level : tie.Need-overflow-add-level invariant-loop decreases-loop
 add-level c = omega arith

@@ -8,7 +8,7 @@ use lib.ListN.{length, get_or}
 use lib.Seq.{ext_get_or}
 use borrow.Author.Count.{below_none, below_more}
 use borrow.Author.Rules.{rules}
-use Rattle.refusals.proofs.Answers.{tells-yes, tells-no}
+use Rattle.refusals.proofs.Answers.{tells_yes, tells_no}
 use Rattle.corners.proofs.same.Statement.{statement}
 use Rattle.corners.proofs.same.Tie as tie
 
@@ -36,7 +36,7 @@ array-read-if1-2 c = search rules
 returns : tie.Need-returns invariant-loop decreases-loop
 returns c =
     let b = c.before.before in
-    tells-no (λ e. c.if1.true (ap (λ (x : List ℕ). get_or x b.loop.v 0) e))
+    tells_no (λ e. c.if1.true (ap (λ (x : List ℕ). get_or x b.loop.v 0) e))
 
 add-v : tie.Need-overflow-add-v invariant-loop decreases-loop
 add-v c = omega arith
@@ -54,7 +54,7 @@ returns-2 c =
     let y = b.args.t2 in
     let e : length x ≡ 12 = b.well-formed.0.1.0.1 in
     let f : length y ≡ 12 = b.well-formed.1.0.1.0.1 in
-    tells-yes (ext_get_or 0 x y (e ∙ sym f) (λ k h. c.before.loop.invariant.1 k (omega arith)))
+    tells_yes (ext_get_or 0 x y (e ∙ sym f) (λ k h. c.before.loop.invariant.1 k (omega arith)))
 
 pub same_spec : {M : Type 1} → statement M
 same_spec =

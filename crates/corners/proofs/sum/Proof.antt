@@ -8,7 +8,7 @@ use lib.Seq.{ext_get_or, get_or-set_same, get_or-set_other}
 use borrow.Author.Count.{below_none, below_more}
 use borrow.Author.Rules.{rules}
 use Rattle.geometry.specs.Weights.{◌⊕◌}
-use Rattle.geometry.proofs.Weights.{getD-⊕, length-⊕, weight≤total}
+use Rattle.geometry.proofs.Weights.{get_or-⊕, length-⊕, weight≤total}
 use Rattle.corners.proofs.sum.Statement.{statement}
 use Rattle.corners.proofs.sum.Tie as tie
 
@@ -72,7 +72,7 @@ returns c =
     let e : length x ≡ 12 = b.well-formed.0.1.0.1 in
     let f : length y ≡ 12 = b.well-formed.1.0.1.0.1 in
     ext_get_or 0 l.weights (x ⊕ y) (l.invariant.1 ∙ sym (length-⊕ 12 x y e f))
-    (λ k h. l.invariant.2 k (omega arith) ∙ sym (getD-⊕ x y k))
+    (λ k h. l.invariant.2 k (omega arith) ∙ sym (get_or-⊕ x y k))
 
 pub sum-spec : {M : Type 1} → statement M
 sum-spec =

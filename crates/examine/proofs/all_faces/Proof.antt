@@ -1,7 +1,7 @@
 -- A power of two, less one, has a bit for each face.
 -- Assumes nothing.
 use borrow.Author.Rules.{rules}
-use Rattle.examine.proofs.Examined.{few, mask-some, mask-whole}
+use Rattle.examine.proofs.Examined.{few, mask_some, mask_whole}
 use Rattle.examine.proofs.all_faces.Statement.{statement}
 use Rattle.examine.proofs.all_faces.Tie as tie
 
@@ -12,10 +12,10 @@ shl-result : tie.Need-overflow-shl-result
 shl-result c = few c.before.args.solid c.faces-of.result c.faces-of.ensures
 
 sub-result : tie.Need-overflow-sub-result
-sub-result c = mask-some c.before.args.solid c.faces-of.result c.faces-of.ensures
+sub-result c = mask_some c.before.args.solid c.faces-of.result c.faces-of.ensures
 
 returns : tie.Need-returns
-returns c = mask-whole c.before.args.solid c.faces-of.result c.faces-of.ensures
+returns c = mask_whole c.before.args.solid c.faces-of.result c.faces-of.ensures
 
 pub all-faces-spec : {M : Type 1} → statement M
 all-faces-spec = tie.close (tie.spec faces-of-requires shl-result sub-result returns)

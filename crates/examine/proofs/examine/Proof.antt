@@ -5,9 +5,9 @@ use Prim.Native.Nat.{ℕ}
 use native.Mathlib.Omega.{arith}
 use borrow.Author.Rules.{rules}
 use Rattle.solids.specs.Solids.{Known}
-use Rattle.soundness.specs.Regions.{allFaces, FaceSet}
-use Rattle.soundness.proofs.Fresh.{all-faces-set}
-use Rattle.examine.proofs.Examined.{sound-first}
+use Rattle.soundness.specs.Regions.{all_faces, FaceSet}
+use Rattle.soundness.proofs.Fresh.{all_faces_set}
+use Rattle.examine.proofs.Examined.{sound_first}
 use Rattle.examine.specs.Examined.{whole_of, Examined}
 use Rattle.examine.proofs.examine.Statement.{statement}
 use Rattle.examine.proofs.examine.Tie as tie
@@ -18,7 +18,7 @@ returns c = search rules
 returns-2 : tie.Need-returns-2
 returns-2 c =
     let xs = c.before.before.before.args.slots.now in
-    (omega arith, λ s. omega (arith, (sound-first (whole_of xs) xs s).0))
+    (omega arith, λ s. omega (arith, (sound_first (whole_of xs) xs s).0))
 
 shared-slice-read-solid-of : tie.Need-shared-slice-read-solid-of
 shared-slice-read-solid-of c = search rules
@@ -26,10 +26,10 @@ shared-slice-read-solid-of c = search rules
 solid-of-requires : tie.Need-solid-of-requires
 solid-of-requires c κs = search rules
 
-returns-3 : tie.Need-returns-3
-returns-3 c =
+returns_3 : tie.Need-returns-3
+returns_3 c =
     let xs = c.before.before.before.before.before.before.args.slots.now in
-    (omega arith, λ s. omega (arith, (sound-first (whole_of xs) xs s).1, c.before.solid-of.ensures))
+    (omega arith, λ s. omega (arith, (sound_first (whole_of xs) xs s).1, c.before.solid-of.ensures))
 
 -- the first slot's solid is known: its two bits are not zero
 known : (c : tie.Else3) → Known c.before.solid-of.result
@@ -41,14 +41,14 @@ all-faces-requires c κs = known c
 examine-faces-requires : tie.Need-examine-faces-requires
 examine-faces-requires c κs =
     let s = c.before.before.solid-of in
-    (omega arith, known c.before, s.ensures, subst (FaceSet s.result) (sym c.all-faces.ensures) (all-faces-set s.result))
+    (omega arith, known c.before, s.ensures, subst (FaceSet s.result) (sym c.all-faces.ensures) (all_faces_set s.result))
 
-returns-4 : tie.Need-returns-4
-returns-4 c =
+returns_4 : tie.Need-returns-4
+returns_4 c =
     let b = c.before in
     let s = b.before.before.solid-of in
     let xs = b.before.before.before.before.before.before.before.args.slots.now in
-    subst (λ (Q : ℕ). Examined Q xs c.examine-faces.result) (b.all-faces.ensures ∙ ap allFaces s.ensures) c.examine-faces.ensures
+    subst (λ (Q : ℕ). Examined Q xs c.examine-faces.result) (b.all-faces.ensures ∙ ap all_faces s.ensures) c.examine-faces.ensures
 
 pub examine-spec : {M : Type 1} → statement M
 examine-spec =
@@ -58,7 +58,7 @@ examine-spec =
     returns-2
     shared-slice-read-solid-of
     solid-of-requires
-    returns-3
+    returns_3
     all-faces-requires
     examine-faces-requires
-    returns-4)
+    returns_4)

@@ -4,7 +4,7 @@ use Prim.Native.Nat.{◌<◌}
 use native.Mathlib.Omega.{arith}
 use borrow.Author.Rules.{rules}
 use borrow.Author.Tests.{not-true, not-false}
-use Rattle.examine.proofs.Examined.{untiled, not_zeros, not-level, seen}
+use Rattle.examine.proofs.Examined.{untiled, not_zeros, not_level, seen}
 use Rattle.examine.proofs.examine_faces.Statement.{statement}
 use Rattle.examine.proofs.examine_faces.Tie as tie
 
@@ -34,16 +34,16 @@ balanced-requires c κs =
     let h : 0 < t.tile-count.result = omega arith in
     (t.tile-count.ensures.upto, record { solid = t.before.before.args.solid; tiling = t.tile-count.ensures.some h })
 
-returns-3 : tie.Need-returns-3
-returns-3 c =
+returns_3 : tie.Need-returns-3
+returns_3 c =
     let t = c.before.before.before.before.before in
     let b = t.before.before in
     let a = b.args in
     let h : 0 < t.tile-count.result = omega arith in
-    (b.requires.0, not-level a.slots.now a.solid a.faces t.tile-count.result b.requires.2 t.tile-count.ensures h (c.before.balanced.ensures.no (not-true _ c.if3.true)))
+    (b.requires.0, not_level a.slots.now a.solid a.faces t.tile-count.result b.requires.2 t.tile-count.ensures h (c.before.balanced.ensures.no (not-true _ c.if3.true)))
 
-returns-4 : tie.Need-returns-4
-returns-4 c =
+returns_4 : tie.Need-returns-4
+returns_4 c =
     let t = c.before.before.before.before.before in
     let z = c.before.before.before in
     let b = t.before.before in
@@ -63,5 +63,5 @@ examine-faces-spec =
     zeros-from-requires
     returns-2
     balanced-requires
-    returns-3
-    returns-4)
+    returns_3
+    returns_4)

@@ -3,14 +3,14 @@
 use mathlib.Core.Path.{◌∙◌}
 use native.Mathlib.Omega.{arith}
 use borrow.Author.Rules.{rules}
-use Rattle.leaves.proofs.Moves.{filled-le, join_is}
+use Rattle.leaves.proofs.Moves.{filled_le, join_is}
 use Rattle.leaves.proofs.join_leaves.Statement.{statement}
 use Rattle.leaves.proofs.join_leaves.Tie as tie
 
 join-requires : tie.Need-join-requires
 join-requires c κs =
     let s = c.before.before in
-    (s.requires.1, filled-le s.args.slots.now s.args.n s.requires.0)
+    (s.requires.1, filled_le s.args.slots.now s.args.n s.requires.0)
 
 same_length : tie.Need-same-length
 same_length c = search rules

@@ -40,9 +40,9 @@ returns-2 c =
     let b = c.before.before.before.below in
     λ m. c.if2.true (found_at a.slots.now a.n a.code s.requires.0 s.requires.1 b.result b.ensures m).1
 
-returns-3 : tie.Need-returns-3
-returns-3 c = (omega (arith, inside c.before.before), omega arith)
+returns_3 : tie.Need-returns-3
+returns_3 c = (omega (arith, inside c.before.before), omega arith)
 
 pub leaf-at-spec : {M : Type 1} → statement M
 leaf-at-spec =
-    tie.close (tie.spec below-requires returns mul-if2 shared-slice-read-if2 returns-2 returns-3)
+    tie.close (tie.spec below-requires returns mul-if2 shared-slice-read-if2 returns-2 returns_3)

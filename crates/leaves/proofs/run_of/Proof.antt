@@ -6,7 +6,7 @@ use native.Mathlib.Omega.{arith}
 use borrow.Author.Rules.{rules}
 use lib.ListN.{take}
 use Rattle.soundness.specs.Inner.{Below}
-use Rattle.leaves.proofs.Search.{past-code, run_is}
+use Rattle.leaves.proofs.Search.{past_code, run_is}
 use Rattle.leaves.proofs.run_of.Statement.{statement}
 use Rattle.leaves.proofs.run_of.Tie as tie
 
@@ -28,7 +28,7 @@ shl-past c = search rules
 add-past : tie.Need-overflow-add-past
 add-past c =
     let s = c.before.before in
-    let p = past-code s.args.cell c.depth-of.result s.requires.2 c.depth-of.ensures in
+    let p = past_code s.args.cell c.depth-of.result s.requires.2 c.depth-of.ensures in
     omega (arith, p.0, p.1)
 
 below-requires : tie.Need-below-requires
@@ -42,7 +42,7 @@ returns c =
     let d = c.before.before in
     let s = d.before.before in
     let a = s.args in
-    let p = past-code a.cell d.depth-of.result s.requires.2 d.depth-of.ensures in
+    let p = past_code a.cell d.depth-of.result s.requires.2 d.depth-of.ensures in
     let b = subst (λ (k : ℕ). Below (take a.n a.slots.now) k c.below2.result) p.0 c.below2.ensures in
     let r = run_is a.slots.now a.n a.cell c.before.below.result c.below2.result s.requires.0 s.requires.1 s.requires.2
     c.before.below.ensures b in

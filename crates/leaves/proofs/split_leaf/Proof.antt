@@ -4,8 +4,8 @@ use mathlib.Core.Path.{◌∙◌}
 use native.Mathlib.Omega.{arith}
 use borrow.Author.Rules.{rules}
 use lib.ListN.{get_or}
-use Rattle.leaves.proofs.Search.{child-is}
-use Rattle.leaves.proofs.Moves.{split-is}
+use Rattle.leaves.proofs.Search.{child_is}
+use Rattle.leaves.proofs.Moves.{split_is}
 use Rattle.leaves.proofs.split_leaf.Statement.{statement}
 use Rattle.leaves.proofs.split_leaf.Tie as tie
 
@@ -43,11 +43,11 @@ returns c =
     let a = s.args in
     let x = get_or a.slots.now a.at 0 in
     c.before.before.split.ensures
-    ∙ split-is a.slots.now a.n a.at s.requires.0 s.requires.2 s.requires.1 _ _ _ _
-    (child-is x 0 k0.child-of.result s.requires.3 s.requires.4 (omega arith) k0.child-of.ensures)
-    (child-is x 1 k1.child-of2.result s.requires.3 s.requires.4 (omega arith) k1.child-of2.ensures)
-    (child-is x 2 k2.child-of3.result s.requires.3 s.requires.4 (omega arith) k2.child-of3.ensures)
-    (child-is x 3 k3.child-of4.result s.requires.3 s.requires.4 (omega arith) k3.child-of4.ensures)
+    ∙ split_is a.slots.now a.n a.at s.requires.0 s.requires.2 s.requires.1 _ _ _ _
+    (child_is x 0 k0.child-of.result s.requires.3 s.requires.4 (omega arith) k0.child-of.ensures)
+    (child_is x 1 k1.child-of2.result s.requires.3 s.requires.4 (omega arith) k1.child-of2.ensures)
+    (child_is x 2 k2.child-of3.result s.requires.3 s.requires.4 (omega arith) k2.child-of3.ensures)
+    (child_is x 3 k3.child-of4.result s.requires.3 s.requires.4 (omega arith) k3.child-of4.ensures)
 
 pub split-leaf-spec : {M : Type 1} → statement M
 split-leaf-spec =

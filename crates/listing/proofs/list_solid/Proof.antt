@@ -4,11 +4,11 @@ use mathlib.Core.Path.{ap, sym, ◌∙◌, subst}
 use native.Mathlib.Omega.{arith}
 use borrow.Author.Rules.{rules}
 use Rattle.refusals.specs.Answers.{Reply}
-use Rattle.text.proofs.Text.{put-within}
-use Rattle.listing.specs.Listing.{answer, Prints, no-mesh, mesh}
-use Rattle.listing.proofs.Lines.{solid-long}
-use Rattle.soundness.specs.Regions.{allFaces}
-use Rattle.soundness.proofs.Fresh.{all-faces-set}
+use Rattle.text.proofs.Text.{put_within}
+use Rattle.listing.specs.Listing.{answer, Prints, no_mesh, mesh}
+use Rattle.listing.proofs.Lines.{solid_long}
+use Rattle.soundness.specs.Regions.{all_faces}
+use Rattle.soundness.proofs.Fresh.{all_faces_set}
 use Rattle.mesh.specs.Series.{start}
 use Rattle.listing.proofs.list_solid.Statement.{statement}
 use Rattle.listing.proofs.list_solid.Tie as tie
@@ -36,8 +36,8 @@ returns c =
     let same = ap (λ (r : Reply). r.number) c.before.before.before.before.before.in_parts.ensures in
     let p = c.before.before.put-answer.ensures in (
       subst (Prints a.input.now) (ap answer (sym same) ∙ sym p.reads)
-          (no-mesh a.solid s.requires.1 s.requires.2 fresh.ensures (λ e. c.before.before.before.before.if1.true (same ∙ e))),
-      put-within p (omega arith),
+          (no_mesh a.solid s.requires.1 s.requires.2 fresh.ensures (λ e. c.before.before.before.before.if1.true (same ∙ e))),
+      put_within p (omega arith),
     )
 
 slice-aggregate-obey-all : tie.Need-slice-aggregate-obey-all
@@ -49,8 +49,8 @@ obey-all-requires c κs =
     let a = s.args in
     let fresh = c.before.before.before.before.before.fresh in
     let same = ap (λ (r : Reply). r.number) c.before.before.before.in_parts.ensures in
-    let made = start a.solid (allFaces a.solid) (all-faces-set a.solid) fresh.ensures (sym same ∙ c.before.before.if1.false) in
-    (s.requires.0, record { solid = a.solid; reach = made }, s.requires.1, solid-long _ a.solid s.requires.2)
+    let made = start a.solid (all_faces a.solid) (all_faces_set a.solid) fresh.ensures (sym same ∙ c.before.before.if1.false) in
+    (s.requires.0, record { solid = a.solid; reach = made }, s.requires.1, solid_long _ a.solid s.requires.2)
 
 same-length-2 : tie.Need-same-length-2
 same-length-2 c = search rules

@@ -7,11 +7,11 @@ use Prim.Native.Nat.{ℕ, ◌-◌, ◌≤◌}
 use native.Mathlib.Omega.{arith}
 use lib.ListN.{length, take, drop, length-drop, drop_of_length-le}
 use borrow.Author.Rules.{rules}
-use Rattle.text.proofs.Text.{put-within}
+use Rattle.text.proofs.Text.{put_within}
 use Rattle.listing.specs.Listing.{unreadable, Goes, other, lists, OrderFirst}
 use Rattle.listing.specs.Lines.{OrderIs, Grown}
-use Rattle.listing.proofs.Lines.{order-long, first_byte, answer-short}
-use Rattle.listing.proofs.Orders.{grown-sound, Onward, order-onward, order-grown}
+use Rattle.listing.proofs.Lines.{order_long, first_byte, answer_short}
+use Rattle.listing.proofs.Orders.{grown_sound, Onward, order_onward, order_grown}
 use Rattle.listing.proofs.obey_all.Statement.{statement}
 use Rattle.listing.proofs.obey_all.Tie as tie
 
@@ -68,7 +68,7 @@ returns c =
     let none = subst (OrderIs (drop l.at input)) c.before.before.before.before.enum_told.given.1 c.before.before.before.before.before.before.order-at.ensures in
     let some : drop l.at input ≢ [] = λ e. omega (arith, ap length e, length-drop l.at input) in
     let put = c.before.before.put-unreadable.ensures in
-    (subst (Goes s.args.slots.now (drop 2 input)) (sym put.reads) (l.invariant.6 unreadable (other some none)), put-within put (omega (arith, l.invariant.1, l.invariant.2, l.invariant.3, s.requires.0, s.requires.2)))
+    (subst (Goes s.args.slots.now (drop 2 input)) (sym put.reads) (l.invariant.6 unreadable (other some none)), put_within put (omega (arith, l.invariant.1, l.invariant.2, l.invariant.3, s.requires.0, s.requires.2)))
 
 add_at : tie.Need-overflow-add-at invariant-loop decreases-loop
 add_at c = search rules
@@ -86,19 +86,19 @@ loop-again c =
     let line = subst (λ (x : ℕ). OrderFirst (drop l.at input) x code.given.0.0) (first_byte input l.at) read in
     let order = c.before.before.before.before.obey.ensures in (
       omega arith,
-      omega (arith, order-long _ _ _ line, length-drop l.at input),
-      omega (arith, l.invariant.2, order.put.ends, answer-short order.outcome.reply.number),
+      omega (arith, order_long _ _ _ line, length-drop l.at input),
+      omega (arith, l.invariant.2, order.put.ends, answer_short order.outcome.reply.number),
       omega (arith, l.invariant.3),
       omega (arith, l.invariant.4),
-      order-grown _ _ _ _ _ _ _ _ l.invariant.5 order,
-      order-onward _ _ _ _ input _ _ l.at _ _ _ code.given.0.0 line order l.invariant.6,
+      order_grown _ _ _ _ _ _ _ _ l.invariant.5 order,
+      order_onward _ _ _ _ input _ _ l.at _ _ _ code.given.0.0 line order l.invariant.6,
     )
 
 put-list-requires : tie.Need-put-list-requires invariant-loop decreases-loop
 put-list-requires c κs =
     let s = c.before.before.before.before.before.before.before in
     let l = c.before.before.before.loop in
-    (omega (arith, l.invariant.1, l.invariant.2, l.invariant.3, s.requires.0, s.requires.2), grown-sound l.slots l.invariant.5)
+    (omega (arith, l.invariant.1, l.invariant.2, l.invariant.3, s.requires.0, s.requires.2), grown_sound l.slots l.invariant.5)
 
 same-length-3 : tie.Need-same-length-3 invariant-loop decreases-loop
 same-length-3 c = omega (arith, c.before.before.before.before.before.before.loop.invariant.3)
@@ -114,7 +114,7 @@ returns-2 c =
     let list = c.before.before.put-list.ensures in
     let all : drop l.at input ≡ [] = drop_of_length-le input {i = l.at} (omega arith) in (
       subst (Goes s.args.slots.now (drop 2 input)) (sym list.put.reads) (l.invariant.6 list.text (lists all list.is)),
-      put-within list.put (omega (arith, l.invariant.1, l.invariant.2, l.invariant.3, s.requires.0, s.requires.2)),
+      put_within list.put (omega (arith, l.invariant.1, l.invariant.2, l.invariant.3, s.requires.0, s.requires.2)),
     )
 
 pub obey-all-spec : {M : Type 1} → statement M

@@ -9,7 +9,7 @@ use lib.ListN.{length-drop}
 use lib.Seq.{get_or-drop}
 use borrow.Author.Rules.{rules}
 use Rattle.listing.specs.Listing.{R, C}
-use Rattle.listing.proofs.Lines.{order-long, order-letter, order-space, order-end, first_byte, order-read}
+use Rattle.listing.proofs.Lines.{order_long, order_letter, order_space, order_end, first_byte, order_read}
 use Rattle.listing.proofs.order_at.Statement.{statement}
 use Rattle.listing.proofs.order_at.Tie as tie
 
@@ -19,7 +19,7 @@ sub-if1 c = search rules
 returns : tie.Need-returns
 returns c =
     let a = c.before.before.args in
-    λ l d o. omega (arith, order-long _ l d o, length-drop a.at a.input.now)
+    λ l d o. omega (arith, order_long _ l d o, length-drop a.at a.input.now)
 
 shared-slice-read-is-order : tie.Need-shared-slice-read-is-order
 shared-slice-read-is-order c = search rules
@@ -32,7 +32,7 @@ returns-2 c =
     let a = c.before.before.before.before.before.args in
     λ l d o.
     c.before.is-order.ensures.no (not-true _ c.if2.true)
-    (subst (λ (x : ℕ). (x ≡ R) ⊎ (x ≡ C)) (sym (order-letter _ l d o) ∙ first_byte a.input.now a.at) o.letter)
+    (subst (λ (x : ℕ). (x ≡ R) ⊎ (x ≡ C)) (sym (order_letter _ l d o) ∙ first_byte a.input.now a.at) o.letter)
 
 add-if3 : tie.Need-overflow-add-if3
 add-if3 c = search rules
@@ -40,10 +40,10 @@ add-if3 c = search rules
 shared-slice-read-if3 : tie.Need-shared-slice-read-if3
 shared-slice-read-if3 c = search rules
 
-returns-3 : tie.Need-returns-3
-returns-3 c =
+returns_3 : tie.Need-returns-3
+returns_3 c =
     let a = c.before.before.before.before.before.before.before.args in
-    λ l d o. c.if3.true (sym (get_or-drop a.at a.input.now 1 0) ∙ order-space _ l d o)
+    λ l d o. c.if3.true (sym (get_or-drop a.at a.input.now 1 0) ∙ order_space _ l d o)
 
 add-if4 : tie.Need-overflow-add-if4
 add-if4 c = search rules
@@ -51,10 +51,10 @@ add-if4 c = search rules
 shared-slice-read-if4 : tie.Need-shared-slice-read-if4
 shared-slice-read-if4 c = search rules
 
-returns-4 : tie.Need-returns-4
-returns-4 c =
+returns_4 : tie.Need-returns-4
+returns_4 c =
     let a = c.before.before.before.before.before.before.before.before.before.args in
-    λ l d o. c.if4.true (sym (get_or-drop a.at a.input.now 18 0) ∙ order-end _ l d o)
+    λ l d o. c.if4.true (sym (get_or-drop a.at a.input.now 18 0) ∙ order_end _ l d o)
 
 add-read-hex : tie.Need-overflow-add-read-hex
 add-read-hex c = search rules
@@ -65,7 +65,7 @@ read-hex-requires c κs = search rules
 returns-5 : tie.Need-returns-5
 returns-5 c =
     let a = c.before.before.before.before.before.before.before.before.before.before.args in
-    order-read a.input.now a.at c.read-hex.result (omega arith) (c.before.before.before.before.before.before.is-order.ensures.yes (not-false _ c.before.before.before.before.before.if2.false)) c.before.before.before.if3.false c.before.if4.false c.read-hex.ensures
+    order_read a.input.now a.at c.read-hex.result (omega arith) (c.before.before.before.before.before.before.is-order.ensures.yes (not-false _ c.before.before.before.before.before.if2.false)) c.before.before.before.if3.false c.before.if4.false c.read-hex.ensures
 
 pub order-at-spec : {M : Type 1} → statement M
 order-at-spec =
@@ -78,10 +78,10 @@ order-at-spec =
     returns-2
     add-if3
     shared-slice-read-if3
-    returns-3
+    returns_3
     add-if4
     shared-slice-read-if4
-    returns-4
+    returns_4
     add-read-hex
     read-hex-requires
     returns-5)

@@ -58,14 +58,14 @@ returns-2 c = put_same (ap difference (sym c.before.before.before.before.before.
 same-length-3 : tie.Need-same-length-3
 same-length-3 c = search rules
 
-returns-3 : tie.Need-returns-3
-returns-3 c = put_same (ap difference (sym c.before.before.before.before.before.enum-told3.given.1)) c.before.before.put3.ensures
+returns_3 : tie.Need-returns-3
+returns_3 c = put_same (ap difference (sym c.before.before.before.before.before.enum-told3.given.1)) c.before.before.put3.ensures
 
 same-length-4 : tie.Need-same-length-4
 same-length-4 c = search rules
 
-returns-4 : tie.Need-returns-4
-returns-4 c = put_same (ap difference (sym c.before.before.before.before.before.enum-told4.given.1)) c.before.before.put4.ensures
+returns_4 : tie.Need-returns-4
+returns_4 c = put_same (ap difference (sym c.before.before.before.before.before.enum-told4.given.1)) c.before.before.put4.ensures
 
 pub put-difference-spec : {M : Type 1} → statement M
 put-difference-spec =
@@ -88,6 +88,6 @@ put-difference-spec =
     same-length-2
     returns-2
     same-length-3
-    returns-3
+    returns_3
     same-length-4
-    returns-4)
+    returns_4)

@@ -8,10 +8,10 @@ use lib.ListN.{length, take, get_or}
 use lib.Seq.{length-take-le}
 use borrow.Author.Rules.{rules}
 use Rattle.sides.specs.Sides.{InMesh}
-use Rattle.mesh.proofs.Held.{held-upto, held-leaf, found-leaf}
-use Rattle.text.proofs.Text.{put-none}
+use Rattle.mesh.proofs.Held.{held_upto, held_leaf, found_leaf}
+use Rattle.text.proofs.Text.{put_none}
 use Rattle.listing.specs.Lines.{Printed}
-use Rattle.listing.proofs.Leaves.{Upto, upto-none, upto_all, line-more}
+use Rattle.listing.proofs.Leaves.{Upto, upto_none, upto_all, line_more}
 use Rattle.listing.proofs.put_leaves.Statement.{statement}
 use Rattle.listing.proofs.put_leaves.Tie as tie
 
@@ -25,7 +25,7 @@ faces-in-requires : tie.Need-faces-in-requires invariant-loop decreases-loop
 faces-in-requires c κs = c.before.before.requires.1.sound
 
 loop-holds : tie.Need-loop-init invariant-loop decreases-loop
-loop-holds c = (omega arith, refl, omega arith, record { text = []; is = upto-none _; put = put-none _ _ })
+loop-holds c = (omega arith, refl, omega arith, record { text = []; is = upto_none _; put = put_none _ _ })
 
 mul-put-leaf : tie.Need-overflow-mul-put-leaf invariant-loop decreases-loop
 mul-put-leaf c = search rules
@@ -33,7 +33,7 @@ mul-put-leaf c = search rules
 shared-slice-read-put-leaf : tie.Need-shared-slice-read-put-leaf invariant-loop decreases-loop
 shared-slice-read-put-leaf c =
     let s = c.before.before.before.before.before.before.before in
-    omega (arith, held-upto s.args.slots.now s.args.n s.requires.1)
+    omega (arith, held_upto s.args.slots.now s.args.n s.requires.1)
 
 put-leaf-requires : tie.Need-put-leaf-requires invariant-loop decreases-loop
 put-leaf-requires c κs =
@@ -42,9 +42,9 @@ put-leaf-requires c κs =
     let xs = s.args.slots.now in
     let n = s.args.n in
     let held = s.requires.1 in
-    let leaf = held-leaf xs n held (get_or xs l.i 0) (found-leaf xs n held l.i (get_or xs l.i 0) (omega arith) refl) in (
+    let leaf = held_leaf xs n held (get_or xs l.i 0) (found_leaf xs n held l.i (get_or xs l.i 0) (omega arith) refl) in (
       omega (arith, l.invariant.1, l.invariant.2, s.requires.0),
-      held-upto xs n held,
+      held_upto xs n held,
       subst (λ (faces : ℕ). InMesh (take n xs) faces (get_or xs l.i 0)) (sym c.before.before.before.before.faces-in.ensures) leaf,
     )
 
@@ -63,7 +63,7 @@ loop-again c =
       omega arith,
       omega (arith, l.invariant.1),
       omega (arith, l.invariant.2, p.ensures.1),
-      line-more xs s.args.n l.i (omega arith) (held-upto xs s.args.n s.requires.1) l.invariant.3 p.ensures.0,
+      line_more xs s.args.n l.i (omega arith) (held_upto xs s.args.n s.requires.1) l.invariant.3 p.ensures.0,
     )
 
 same_length : tie.Need-same-length invariant-loop decreases-loop
@@ -74,7 +74,7 @@ returns c =
     let s = c.before.before.before.before.before in
     let l = c.before.loop in
     let L : List ℕ = take s.args.n s.args.slots.now in
-    let all : length L ≤ l.i = omega (arith, length-take-le s.args.n s.args.slots.now (held-upto s.args.slots.now s.args.n s.requires.1)) in
+    let all : length L ≤ l.i = omega (arith, length-take-le s.args.n s.args.slots.now (held_upto s.args.slots.now s.args.n s.requires.1)) in
     record { text = l.invariant.3.text; is = upto_all L l.i l.invariant.3.text all l.invariant.3.is; put = l.invariant.3.put }
 
 pub put-leaves-spec : {M : Type 1} → statement M

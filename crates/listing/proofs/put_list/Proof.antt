@@ -7,7 +7,7 @@ use native.Mathlib.Omega.{arith}
 use borrow.Author.Rules.{rules}
 use Rattle.examine.specs.Examined.{whole_of, Examined}
 use Rattle.mesh.specs.Calls.{Held}
-use Rattle.mesh.proofs.Held.{held-take, held-upto}
+use Rattle.mesh.proofs.Held.{held_take, held_upto}
 use Rattle.listing.specs.Listing.{LeafLines}
 use Rattle.listing.specs.Lines.{Printed}
 use Rattle.listing.proofs.put_list.Statement.{statement}
@@ -32,7 +32,7 @@ put-leaves-requires c κs =
     let n = c.before.before.n in
     let seen = subst (Examined (whole_of xs) xs) n.given.1 c.before.before.before.before.examine.ensures in
     let held : Held xs n.given.0.0 = record { sound = seen.1; count = seen.2 } in
-    (omega (arith, s.requires.0, held-upto xs n.given.0.0 held, seen.0), held)
+    (omega (arith, s.requires.0, held_upto xs n.given.0.0 held, seen.0), held)
 
 returns : tie.Need-returns
 returns c =
@@ -49,15 +49,15 @@ returns-2 c =
 same_length : tie.Need-same-length
 same_length c = search rules
 
-returns-3 : tie.Need-returns-3
-returns-3 c =
+returns_3 : tie.Need-returns-3
+returns_3 c =
     let s = c.before.before.before.before.before.before.before.before.before.before in
     let xs = s.args.slots.now in
     let n = c.before.before.before.before.before.n in
     let seen = subst (Examined (whole_of xs) xs) n.given.1 c.before.before.before.before.before.before.before.examine.ensures in
     let held : Held xs n.given.0.0 = record { sound = seen.1; count = seen.2 } in
     let p = c.before.before.put-leaves in
-    subst (λ (L : List ℕ). Printed (LeafLines L L) s.args.page.now p.new.0 s.args.at p.result) (held-take xs n.given.0.0 held) p.ensures
+    subst (λ (L : List ℕ). Printed (LeafLines L L) s.args.page.now p.new.0 s.args.at p.result) (held_take xs n.given.0.0 held) p.ensures
 
 pub put-list-spec : {M : Type 1} → statement M
 put-list-spec =
@@ -71,4 +71,4 @@ put-list-spec =
     returns
     returns-2
     same_length
-    returns-3)
+    returns_3)

@@ -2,18 +2,18 @@
 -- Assumes nothing.
 use native.Mathlib.Omega.{arith}
 use borrow.Author.Rules.{rules}
-use Rattle.listing.proofs.Lines.{solid-made, solid-long, solid-digit, solid-end}
+use Rattle.listing.proofs.Lines.{solid_made, solid_long, solid_digit, solid_end}
 use Rattle.listing.proofs.solid_first.Statement.{statement}
 use Rattle.listing.proofs.solid_first.Tie as tie
 
 returns : tie.Need-returns
-returns c = λ d s. omega (arith, solid-long _ d s)
+returns c = λ d s. omega (arith, solid_long _ d s)
 
 shared-slice-read-if2 : tie.Need-shared-slice-read-if2
 shared-slice-read-if2 c = search rules
 
 returns-2 : tie.Need-returns-2
-returns-2 c = λ d s. c.if2.true (solid-end _ d s)
+returns-2 c = λ d s. c.if2.true (solid_end _ d s)
 
 shared-slice-read-if3 : tie.Need-shared-slice-read-if3
 shared-slice-read-if3 c = search rules
@@ -27,16 +27,16 @@ cast-t12 c = search rules
 sub-t13 : tie.Need-overflow-sub-t13
 sub-t13 c = search rules
 
-returns-3 : tie.Need-returns-3
-returns-3 c =
+returns_3 : tie.Need-returns-3
+returns_3 c =
     let a = c.before.before.before.before.before.before.before.args in
-    solid-made a.input.now _ (omega arith) (omega arith) (omega arith) (omega arith)
+    solid_made a.input.now _ (omega arith) (omega arith) (omega arith) (omega arith)
 
-returns-4 : tie.Need-returns-4
-returns-4 c = λ d s. omega (arith, solid-digit _ d s, s.digit)
+returns_4 : tie.Need-returns-4
+returns_4 c = λ d s. omega (arith, solid_digit _ d s, s.digit)
 
 returns-5 : tie.Need-returns-5
-returns-5 c = λ d s. omega (arith, solid-digit _ d s, s.digit)
+returns-5 c = λ d s. omega (arith, solid_digit _ d s, s.digit)
 
 pub solid-first-spec : {M : Type 1} → statement M
 solid-first-spec =
@@ -49,6 +49,6 @@ solid-first-spec =
     shared-slice-read-t11
     cast-t12
     sub-t13
-    returns-3
-    returns-4
+    returns_3
+    returns_4
     returns-5)

@@ -2,10 +2,10 @@
 -- Assumes nothing.
 use mathlib.Core.Path.{subst}
 use borrow.Author.Rules.{rules}
-use Rattle.codes.specs.Codes.{codeFaults}
+use Rattle.codes.specs.Codes.{code_faults}
 use Rattle.examine.specs.Examined.{Examined, whole_of}
-use Rattle.mesh.specs.Answers.{notCrossed}
-use Rattle.mesh.specs.Calls.{acrossEnd}
+use Rattle.mesh.specs.Answers.{not_crossed}
+use Rattle.mesh.specs.Calls.{across_end}
 use Rattle.mesh.proofs.Faults.{too_long, unsound, goes_on}
 use Rattle.mesh.proofs.across.Statement.{statement}
 use Rattle.mesh.proofs.across.Tie as tie
@@ -34,7 +34,7 @@ returns c =
     let b = c.before.before in
     let a = b.before.before.args in
     let xs = a.slots.now in
-    too_long notCrossed (whole_of xs) xs (codeFaults notCrossed a.leaf (acrossEnd xs a.leaf a.direction))
+    too_long not_crossed (whole_of xs) xs (code_faults not_crossed a.leaf (across_end xs a.leaf a.direction))
     (subst (Examined (whole_of xs) xs) c.enum_told.given.1 b.examine.ensures)
 
 returns-2 : tie.Need-returns-2
@@ -42,17 +42,17 @@ returns-2 c =
     let b = c.before.before in
     let a = b.before.before.args in
     let xs = a.slots.now in
-    unsound notCrossed (whole_of xs) xs (codeFaults notCrossed a.leaf (acrossEnd xs a.leaf a.direction))
+    unsound not_crossed (whole_of xs) xs (code_faults not_crossed a.leaf (across_end xs a.leaf a.direction))
     (subst (Examined (whole_of xs) xs) c.enum-told2.given.1 b.examine.ensures)
 
-returns-3 : tie.Need-returns-3
-returns-3 c =
+returns_3 : tie.Need-returns-3
+returns_3 c =
     let k = c.before in
     let b = k.before.before.before in
     let a = b.before.before.args in
     let xs = a.slots.now in
     let e = subst (Examined (whole_of xs) xs) k.before.n.given.1 b.examine.ensures in
-    goes_on notCrossed (whole_of xs) xs (codeFaults notCrossed a.leaf (acrossEnd xs a.leaf a.direction)) e.0 e.1 c.across-sound.ensures
+    goes_on not_crossed (whole_of xs) xs (code_faults not_crossed a.leaf (across_end xs a.leaf a.direction)) e.0 e.1 c.across-sound.ensures
 
 pub across-spec : {M : Type 1} → statement M
 across-spec =
@@ -65,4 +65,4 @@ across-spec =
     across-sound-requires
     returns
     returns-2
-    returns-3)
+    returns_3)

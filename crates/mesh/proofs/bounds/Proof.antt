@@ -2,10 +2,10 @@
 -- Assumes nothing.
 use mathlib.Core.Path.{subst}
 use borrow.Author.Rules.{rules}
-use Rattle.codes.specs.Codes.{codeFaults}
+use Rattle.codes.specs.Codes.{code_faults}
 use Rattle.examine.specs.Examined.{Examined, whole_of}
-use Rattle.mesh.specs.Answers.{noBounds}
-use Rattle.mesh.specs.Calls.{boundsEnd}
+use Rattle.mesh.specs.Answers.{no_bounds}
+use Rattle.mesh.specs.Calls.{bounds_end}
 use Rattle.mesh.proofs.Faults.{too_long, unsound, goes_on}
 use Rattle.mesh.proofs.bounds.Statement.{statement}
 use Rattle.mesh.proofs.bounds.Tie as tie
@@ -34,7 +34,7 @@ returns c =
     let b = c.before.before in
     let a = b.before.before.args in
     let xs = a.slots.now in
-    too_long noBounds (whole_of xs) xs (codeFaults noBounds a.cell (boundsEnd xs a.cell))
+    too_long no_bounds (whole_of xs) xs (code_faults no_bounds a.cell (bounds_end xs a.cell))
     (subst (Examined (whole_of xs) xs) c.enum_told.given.1 b.examine.ensures)
 
 returns-2 : tie.Need-returns-2
@@ -42,17 +42,17 @@ returns-2 c =
     let b = c.before.before in
     let a = b.before.before.args in
     let xs = a.slots.now in
-    unsound noBounds (whole_of xs) xs (codeFaults noBounds a.cell (boundsEnd xs a.cell))
+    unsound no_bounds (whole_of xs) xs (code_faults no_bounds a.cell (bounds_end xs a.cell))
     (subst (Examined (whole_of xs) xs) c.enum-told2.given.1 b.examine.ensures)
 
-returns-3 : tie.Need-returns-3
-returns-3 c =
+returns_3 : tie.Need-returns-3
+returns_3 c =
     let k = c.before in
     let b = k.before.before.before in
     let a = b.before.before.args in
     let xs = a.slots.now in
     let e = subst (Examined (whole_of xs) xs) k.before.n.given.1 b.examine.ensures in
-    goes_on noBounds (whole_of xs) xs (codeFaults noBounds a.cell (boundsEnd xs a.cell)) e.0 e.1 c.bounds-sound.ensures
+    goes_on no_bounds (whole_of xs) xs (code_faults no_bounds a.cell (bounds_end xs a.cell)) e.0 e.1 c.bounds-sound.ensures
 
 pub bounds-spec : {M : Type 1} → statement M
 bounds-spec =
@@ -65,4 +65,4 @@ bounds-spec =
     bounds-sound-requires
     returns
     returns-2
-    returns-3)
+    returns_3)

@@ -4,11 +4,11 @@ use mathlib.Core.Path.{◌≡◌, subst}
 use Prim.Native.Nat.{◌≤◌}
 use borrow.Author.Rules.{rules}
 use lib.ListN.{length}
-use Rattle.codes.specs.Codes.{codeFaults}
+use Rattle.codes.specs.Codes.{code_faults}
 use Rattle.soundness.specs.Leaves.{leaves}
 use Rattle.soundness.specs.Soundness.{SoundIn}
 use Rattle.examine.specs.Examined.{whole_of, Examined}
-use Rattle.mesh.specs.Calls.{kept, coarsenEnd}
+use Rattle.mesh.specs.Calls.{kept, coarsen_end}
 use Rattle.mesh.proofs.Faults.{too_long, unsound, goes_on}
 use Rattle.mesh.proofs.coarsen.Statement.{statement}
 use Rattle.mesh.proofs.coarsen.Tie as tie
@@ -44,7 +44,7 @@ returns : tie.Need-returns
 returns c =
     let a = c.before.before.before.before.before.args in
     let xs = a.slots.now in
-    too_long (kept xs) (whole_of xs) xs (codeFaults (kept xs) a.cell (coarsenEnd xs a.cell))
+    too_long (kept xs) (whole_of xs) xs (code_faults (kept xs) a.cell (coarsen_end xs a.cell))
     (subst (Examined (whole_of xs) xs) c.enum_told.given.1 c.before.before.examine.ensures)
 
 same-length-2 : tie.Need-same-length-2
@@ -54,19 +54,19 @@ returns-2 : tie.Need-returns-2
 returns-2 c =
     let a = c.before.before.before.before.before.args in
     let xs = a.slots.now in
-    unsound (kept xs) (whole_of xs) xs (codeFaults (kept xs) a.cell (coarsenEnd xs a.cell))
+    unsound (kept xs) (whole_of xs) xs (code_faults (kept xs) a.cell (coarsen_end xs a.cell))
     (subst (Examined (whole_of xs) xs) c.enum-told2.given.1 c.before.before.examine.ensures)
 
 same-length-3 : tie.Need-same-length-3
 same-length-3 c = search rules
 
-returns-3 : tie.Need-returns-3
-returns-3 c =
+returns_3 : tie.Need-returns-3
+returns_3 c =
     let k = c.before.before.before.before in
     let a = k.before.before.before.before.before.before.args in
     let xs = a.slots.now in
     let h = counted k in
-    goes_on (kept xs) (whole_of xs) xs (codeFaults (kept xs) a.cell (coarsenEnd xs a.cell)) h.0 h.1 c.before.before.coarsen-sound.ensures
+    goes_on (kept xs) (whole_of xs) xs (code_faults (kept xs) a.cell (coarsen_end xs a.cell)) h.0 h.1 c.before.before.coarsen_sound.ensures
 
 pub coarsen-spec : {M : Type 1} → statement M
 coarsen-spec =
@@ -82,4 +82,4 @@ coarsen-spec =
     same-length-2
     returns-2
     same-length-3
-    returns-3)
+    returns_3)

@@ -6,11 +6,11 @@ use Prim.Native.Nat.{◌<◌}
 use native.Mathlib.Omega.{arith}
 use borrow.Author.Rules.{rules}
 use Rattle.codes.specs.Codes.{depth, Code}
-use Rattle.codes.proofs.Faults.{code-refused, code-on, code-is-formed}
+use Rattle.codes.proofs.Faults.{code_refused, code_on, code_is_formed}
 use Rattle.leaves.specs.Leaves.{FourAt}
 use Rattle.leaves.specs.declared.Found.TheVariants.{At}
-use Rattle.mesh.specs.Calls.{kept, coarsenEnd}
-use Rattle.mesh.proofs.Held.{held-upto, held-covered, held-four, four-leaves}
+use Rattle.mesh.specs.Calls.{kept, coarsen_end}
+use Rattle.mesh.proofs.Held.{held_upto, held_covered, held_four, four_leaves}
 use Rattle.mesh.proofs.coarsen_sound.Statement.{statement}
 use Rattle.mesh.proofs.coarsen_sound.Tie as tie
 
@@ -21,7 +21,7 @@ returns : tie.Need-returns
 returns c =
     let a = c.before.before.before.args in
     let xs = a.slots.now in
-    code-refused (kept xs) a.cell (coarsenEnd xs a.cell) c.before.check.ensures c.if1.true
+    code_refused (kept xs) a.cell (coarsen_end xs a.cell) c.before.check.ensures c.if1.true
 
 depth-of-requires : tie.Need-depth-of-requires
 depth-of-requires c κs = search rules
@@ -31,14 +31,14 @@ returns-2 c =
     let b = c.before.before in
     let a = b.before.before.before.args in
     let xs = a.slots.now in
-    code-on (kept xs) a.cell (coarsenEnd xs a.cell) (code-is-formed a.cell b.before.check.ensures b.if1.false)
+    code_on (kept xs) a.cell (coarsen_end xs a.cell) (code_is_formed a.cell b.before.check.ensures b.if1.false)
     (inl ((λ h. omega arith), refl))
 
 -- what the two checks passed tell
 coded : (c : tie.Else2) → Code c.before.before.before.before.before.args.cell
 coded c =
     let b = c.before.before in
-    code-is-formed b.before.before.before.args.cell b.before.check.ensures b.if1.false
+    code_is_formed b.before.before.before.args.cell b.before.check.ensures b.if1.false
 
 low : (c : tie.Else2) → depth c.before.before.before.before.before.args.cell < 26
 low c = omega arith
@@ -47,7 +47,7 @@ four-at-requires : tie.Need-four-at-requires
 four-at-requires c κs =
     let s = c.before.before.before.before.before.before in
     let xs = s.args.slots.now in
-    (held-upto xs s.args.n s.requires, held-covered xs s.args.n s.requires, coded c.before, low c.before)
+    (held_upto xs s.args.n s.requires, held_covered xs s.args.n s.requires, coded c.before, low c.before)
 
 enum_told : tie.Need-enum-told
 enum_told c = search rules
@@ -61,7 +61,7 @@ found : (c : tie.After-known-told) →
     c.before.before.before.before.before.before.before.before.before.before.args.cell (At c.before.at.given.0.0)
 found c =
     let a = c.before.before.before.before.before.before.before.before.before.before.args in
-    subst (FourAt a.slots.now a.n a.cell) c.before.at.given.1 c.before.before.before.four-at.ensures
+    subst (FourAt a.slots.now a.n a.cell) c.before.at.given.1 c.before.before.before.four_at.ensures
 
 coarsen-leaves-requires : tie.Need-coarsen-leaves-requires
 coarsen-leaves-requires c κs =
@@ -72,29 +72,29 @@ coarsen-leaves-requires c κs =
 same_length : tie.Need-same-length
 same_length c = search rules
 
-returns-3 : tie.Need-returns-3
-returns-3 c =
+returns_3 : tie.Need-returns-3
+returns_3 c =
     let e = c.before.before.before.before in
     let s = e.before.before.before.before.before in
     let a = s.args in
     let xs = a.slots.now in
-    let none = subst (FourAt xs a.n a.cell) c.enum_told.given.1 c.before.before.four-at.ensures in
-    code-on (kept xs) a.cell (coarsenEnd xs a.cell) (coded e)
-    (inr (low e, inl ((λ f. none (held-four xs a.n s.requires a.cell (coded e) f).four), refl)))
+    let none = subst (FourAt xs a.n a.cell) c.enum_told.given.1 c.before.before.four_at.ensures in
+    code_on (kept xs) a.cell (coarsen_end xs a.cell) (coded e)
+    (inr (low e, inl ((λ f. none (held_four xs a.n s.requires a.cell (coded e) f).four), refl)))
 
 same-length-2 : tie.Need-same-length-2
 same-length-2 c = search rules
 
-returns-4 : tie.Need-returns-4
-returns-4 c =
+returns_4 : tie.Need-returns-4
+returns_4 c =
     let k = c.before.before.before.before in
     let e = k.before.before.before.before.before in
     let s = e.before.before.before.before.before in
     let a = s.args in
     let xs = a.slots.now in
     let f = found k in
-    code-on (kept xs) a.cell (coarsenEnd xs a.cell) (coded e)
-    (inr (low e, inr (four-leaves xs a.n s.requires k.before.at.given.0.0 a.cell f.0 f.1, c.before.before.coarsen-leaves.ensures)))
+    code_on (kept xs) a.cell (coarsen_end xs a.cell) (coded e)
+    (inr (low e, inr (four_leaves xs a.n s.requires k.before.at.given.0.0 a.cell f.0 f.1, c.before.before.coarsen-leaves.ensures)))
 
 pub coarsen-sound-spec : {M : Type 1} → statement M
 coarsen-sound-spec =
@@ -109,6 +109,6 @@ coarsen-sound-spec =
     enum-known-at
     coarsen-leaves-requires
     same_length
-    returns-3
+    returns_3
     same-length-2
-    returns-4)
+    returns_4)

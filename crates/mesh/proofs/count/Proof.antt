@@ -11,9 +11,9 @@ use Rattle.soundness.specs.Leaves.{leaves}
 use Rattle.soundness.specs.Changes.{under}
 use Rattle.examine.specs.Examined.{whole_of}
 use Rattle.mesh.specs.declared.Extent.{Extent}
-use Rattle.mesh.specs.Answers.{Part, part, noBounds, boundsReply}
+use Rattle.mesh.specs.Answers.{Part, part, no_bounds, bounds_reply}
 use Rattle.mesh.specs.Calls.{BoundsOf}
-use Rattle.mesh.proofs.Bounded.{bounds-as}
+use Rattle.mesh.proofs.Bounded.{bounds_as}
 use Rattle.mesh.proofs.count.Statement.{statement}
 use Rattle.mesh.proofs.count.Tie as tie
 
@@ -35,8 +35,8 @@ returns c =
     let a = b.before.before.args in
     let xs = a.slots.now in
     let g = c.before.count.given in
-    let e = subst (λ (e : Extent). BoundsOf (whole_of xs) xs a.cell (boundsReply e)) g.1 b.bounds.ensures in
-    bounds-as refused (whole_of xs) xs a.cell (counts xs a.cell) (part g.0.0 g.0.1.0) (done g.0.1.0)
+    let e = subst (λ (e : Extent). BoundsOf (whole_of xs) xs a.cell (bounds_reply e)) g.1 b.bounds.ensures in
+    bounds_as refused (whole_of xs) xs a.cell (counts xs a.cell) (part g.0.0 g.0.1.0) (done g.0.1.0)
     (λ k l e. absurd (omega (arith, ap (λ (p : Part). p.number) e)))
     (λ B. ap (λ (p : Part). done p.count) B.is)
     e
@@ -47,8 +47,8 @@ returns-2 c =
     let a = b.before.before.args in
     let xs = a.slots.now in
     let g = c.before.k.given in
-    let e = subst (λ (e : Extent). BoundsOf (whole_of xs) xs a.cell (boundsReply e)) g.1 b.bounds.ensures in
-    bounds-as refused (whole_of xs) xs a.cell (counts xs a.cell) (noBounds g.0.0) (refused g.0.0)
+    let e = subst (λ (e : Extent). BoundsOf (whole_of xs) xs a.cell (bounds_reply e)) g.1 b.bounds.ensures in
+    bounds_as refused (whole_of xs) xs a.cell (counts xs a.cell) (no_bounds g.0.0) (refused g.0.0)
     (λ k l e. ap (λ (p : Part). refused p.number) e)
     (λ B. ap (λ (p : Part). record { number = p.number; value = p.count }) B.is)
     e

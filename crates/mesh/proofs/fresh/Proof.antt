@@ -6,7 +6,7 @@ use Prim.Native.Nat.{ℕ}
 use native.Mathlib.Omega.{arith}
 use borrow.Author.Rules.{rules}
 use lib.ListN.{length}
-use Rattle.soundness.specs.Changes.{freshLeaves}
+use Rattle.soundness.specs.Changes.{fresh_leaves}
 use Rattle.refusals.specs.Answers.{done}
 use Rattle.soundness.specs.Leaves.{pad}
 use Rattle.mesh.specs.Answers.{outcome}
@@ -19,8 +19,8 @@ returns c = inl ((λ h. omega arith), refl)
 returns-2 : tie.Need-returns-2
 returns-2 c = inr (omega arith, inl ((λ h. omega (arith, h.0)), refl))
 
-returns-3 : tie.Need-returns-3
-returns-3 c = inr (omega arith, inl ((λ h. omega (arith, h.1)), refl))
+returns_3 : tie.Need-returns-3
+returns_3 c = inr (omega arith, inl ((λ h. omega (arith, h.1)), refl))
 
 all-faces-requires : tie.Need-all-faces-requires
 all-faces-requires c κs = search rules
@@ -28,10 +28,10 @@ all-faces-requires c κs = search rules
 fresh-count-requires : tie.Need-fresh-count-requires
 fresh-count-requires c κs = search rules
 
-returns-4 : tie.Need-returns-4
-returns-4 c =
+returns_4 : tie.Need-returns-4
+returns_4 c =
     let f = c.before.before.all-faces.ensures in
-    inr (omega arith, inr ((omega arith, omega arith), inl ((λ h. omega (arith, h, c.before.fresh-count.ensures, ap (λ (Q : ℕ). length (freshLeaves c.before.before.before.before.before.before.before.args.solid Q)) f)), refl)))
+    inr (omega arith, inr ((omega arith, omega arith), inl ((λ h. omega (arith, h, c.before.fresh-count.ensures, ap (λ (Q : ℕ). length (fresh_leaves c.before.before.before.before.before.before.before.args.solid Q)) f)), refl)))
 
 fresh-into-requires : tie.Need-fresh-into-requires
 fresh-into-requires c κs = ((omega arith, omega arith), omega (arith, c.before.before.fresh-count.ensures))
@@ -42,7 +42,7 @@ same_length c = search rules
 returns-5 : tie.Need-returns-5
 returns-5 c =
     let a = c.before.before.before.before.before.before.before.before.before.before.before.args in
-    let f = ap (freshLeaves a.solid) c.before.before.before.before.before.before.all-faces.ensures in
+    let f = ap (fresh_leaves a.solid) c.before.before.before.before.before.before.all-faces.ensures in
     inr (
       omega arith,
       inr (
@@ -60,10 +60,10 @@ fresh-spec =
     (tie.spec
     returns
     returns-2
-    returns-3
+    returns_3
     all-faces-requires
     fresh-count-requires
-    returns-4
+    returns_4
     fresh-into-requires
     same_length
     returns-5)

@@ -2,9 +2,9 @@
 -- Assumes nothing.
 use mathlib.Core.Path.{subst}
 use borrow.Author.Rules.{rules}
-use Rattle.codes.specs.Codes.{codeFaults}
+use Rattle.codes.specs.Codes.{code_faults}
 use Rattle.examine.specs.Examined.{whole_of, Examined}
-use Rattle.mesh.specs.Calls.{kept, refineEnd}
+use Rattle.mesh.specs.Calls.{kept, refine_end}
 use Rattle.mesh.proofs.Faults.{too_long, unsound, goes_on}
 use Rattle.mesh.proofs.refine.Statement.{statement}
 use Rattle.mesh.proofs.refine.Tie as tie
@@ -35,7 +35,7 @@ returns c =
     let a = c.before.before.before.before.before.args in
     let xs = a.slots.now in
     let seen = subst (Examined (whole_of xs) xs) c.enum_told.given.1 c.before.before.examine.ensures in
-    too_long (kept xs) (whole_of xs) xs (codeFaults (kept xs) a.leaf (refineEnd xs a.leaf)) seen
+    too_long (kept xs) (whole_of xs) xs (code_faults (kept xs) a.leaf (refine_end xs a.leaf)) seen
 
 same-length-2 : tie.Need-same-length-2
 same-length-2 c = search rules
@@ -45,17 +45,17 @@ returns-2 c =
     let a = c.before.before.before.before.before.args in
     let xs = a.slots.now in
     let seen = subst (Examined (whole_of xs) xs) c.enum-told2.given.1 c.before.before.examine.ensures in
-    unsound (kept xs) (whole_of xs) xs (codeFaults (kept xs) a.leaf (refineEnd xs a.leaf)) seen
+    unsound (kept xs) (whole_of xs) xs (code_faults (kept xs) a.leaf (refine_end xs a.leaf)) seen
 
 same-length-3 : tie.Need-same-length-3
 same-length-3 c = search rules
 
-returns-3 : tie.Need-returns-3
-returns-3 c =
+returns_3 : tie.Need-returns-3
+returns_3 c =
     let a = c.before.before.before.before.before.before.before.before.before.before.args in
     let xs = a.slots.now in
     let seen = subst (Examined (whole_of xs) xs) c.before.before.before.before.before.n.given.1 c.before.before.before.before.before.before.before.examine.ensures in
-    goes_on (kept xs) (whole_of xs) xs (codeFaults (kept xs) a.leaf (refineEnd xs a.leaf)) seen.0 seen.1 c.before.before.refine-sound.ensures
+    goes_on (kept xs) (whole_of xs) xs (code_faults (kept xs) a.leaf (refine_end xs a.leaf)) seen.0 seen.1 c.before.before.refine_sound.ensures
 
 pub refine-spec : {M : Type 1} → statement M
 refine-spec =
@@ -71,4 +71,4 @@ refine-spec =
     same-length-2
     returns-2
     same-length-3
-    returns-3)
+    returns_3)

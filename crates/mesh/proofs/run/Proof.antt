@@ -11,9 +11,9 @@ use Rattle.soundness.specs.Leaves.{leaves}
 use Rattle.soundness.specs.Changes.{under}
 use Rattle.examine.specs.Examined.{whole_of}
 use Rattle.mesh.specs.declared.Extent.{Extent}
-use Rattle.mesh.specs.Answers.{Part, part, noBounds, boundsReply}
+use Rattle.mesh.specs.Answers.{Part, part, no_bounds, bounds_reply}
 use Rattle.mesh.specs.Calls.{none, BoundsOf}
-use Rattle.mesh.proofs.Bounded.{bounds-upto, bounds-as}
+use Rattle.mesh.proofs.Bounded.{bounds_upto, bounds_as}
 use Rattle.mesh.proofs.run.Statement.{statement}
 use Rattle.mesh.proofs.run.Tie as tie
 
@@ -29,8 +29,8 @@ add-result c =
     let a = b.before.before.args in
     let xs = a.slots.now in
     let g = c.before.start.given in
-    let e = subst (λ (e : Extent). BoundsOf (whole_of xs) xs a.cell (boundsReply e)) g.1 b.bounds.ensures in
-    let u = bounds-upto (whole_of xs) xs a.cell g.0.0 g.0.1.0 e in
+    let e = subst (λ (e : Extent). BoundsOf (whole_of xs) xs a.cell (bounds_reply e)) g.1 b.bounds.ensures in
+    let u = bounds_upto (whole_of xs) xs a.cell g.0.0 g.0.1.0 e in
     omega (arith, u.0, u.1)
 
 mul-result : tie.Need-overflow-mul-result
@@ -39,8 +39,8 @@ mul-result c =
     let a = b.before.before.args in
     let xs = a.slots.now in
     let g = c.before.start.given in
-    let e = subst (λ (e : Extent). BoundsOf (whole_of xs) xs a.cell (boundsReply e)) g.1 b.bounds.ensures in
-    let u = bounds-upto (whole_of xs) xs a.cell g.0.0 g.0.1.0 e in
+    let e = subst (λ (e : Extent). BoundsOf (whole_of xs) xs a.cell (bounds_reply e)) g.1 b.bounds.ensures in
+    let u = bounds_upto (whole_of xs) xs a.cell g.0.0 g.0.1.0 e in
     omega (arith, u.0, u.1)
 
 sub-result : tie.Need-overflow-sub-result
@@ -55,8 +55,8 @@ part-result-end c =
     let a = b.before.before.args in
     let xs = a.slots.now in
     let g = c.before.start.given in
-    let e = subst (λ (e : Extent). BoundsOf (whole_of xs) xs a.cell (boundsReply e)) g.1 b.bounds.ensures in
-    (bounds-upto (whole_of xs) xs a.cell g.0.0 g.0.1.0 e).1
+    let e = subst (λ (e : Extent). BoundsOf (whole_of xs) xs a.cell (bounds_reply e)) g.1 b.bounds.ensures in
+    (bounds_upto (whole_of xs) xs a.cell g.0.0 g.0.1.0 e).1
 
 enum_told : tie.Need-enum-told
 enum_told c = search rules
@@ -82,8 +82,8 @@ returns c =
     let g = k.before.start.given in
     let s = g.0.0 in
     let m = g.0.1.0 in
-    let e = subst (λ (e : Extent). BoundsOf (whole_of xs) xs a.cell (boundsReply e)) g.1 b.bounds.ensures in
-    bounds-as none (whole_of xs) xs a.cell (holds xs a.cell) (part s m) _
+    let e = subst (λ (e : Extent). BoundsOf (whole_of xs) xs a.cell (bounds_reply e)) g.1 b.bounds.ensures in
+    bounds_as none (whole_of xs) xs a.cell (holds xs a.cell) (part s m) _
     (λ k l e. absurd (omega (arith, ap (λ (p : Part). p.number) e)))
     (λ B. ap (λ (n : ℕ). take n (drop s xs)) (add-sub_cancel_left s m) ∙ B.holds)
     e
@@ -94,8 +94,8 @@ returns-2 c =
     let a = b.before.before.args in
     let xs = a.slots.now in
     let g = c.before.enum_told.given in
-    let e = subst (λ (e : Extent). BoundsOf (whole_of xs) xs a.cell (boundsReply e)) g.1 b.bounds.ensures in
-    bounds-as none (whole_of xs) xs a.cell (holds xs a.cell) (noBounds g.0.0) [] (λ k l e. refl) (λ B. B.holds) e
+    let e = subst (λ (e : Extent). BoundsOf (whole_of xs) xs a.cell (bounds_reply e)) g.1 b.bounds.ensures in
+    bounds_as none (whole_of xs) xs a.cell (holds xs a.cell) (no_bounds g.0.0) [] (λ k l e. refl) (λ B. B.holds) e
 
 pub run_spec : {M : Type 1} → statement M
 run_spec =

@@ -5,7 +5,7 @@ use Prim.Native.Nat.{◌+◌, ◌-◌, ◌^◌, ◌<◌, ◌≤◌}
 use native.Mathlib.Omega.{arith}
 use Rattle.geometry.specs.Paths.{number}
 use Rattle.geometry.proofs.Paths.{digit<4}
-use Rattle.points.specs.Points.{weights, lower, down, pathTo}
+use Rattle.points.specs.Points.{weights, lower, down, path_to}
 use Rattle.points.proofs.Loop.{Reached, small, again}
 use Rattle.points.proofs.descend.Statement.{statement}
 use Rattle.points.proofs.descend.Tie as tie
@@ -17,7 +17,7 @@ abbrev decreases-loop : tie.decreases-loop
 decreases-loop t l r depth a₀ b₀ c₀ n₀ path₀ a b c n path = depth - n
 
 loop-holds : tie.Need-loop-init invariant-loop decreases-loop
-unfolding down pathTo number
+unfolding down path_to number
 loop-holds c = (omega arith, record { here = refl; digits = refl })
 
 bound : (b : tie.At-loop invariant-loop decreases-loop) → (b.loop.a + b.loop.b + b.loop.c ≤ 2 ^ 26) × (b.loop.path < 4 ^ b.loop.n) × (4 ^ b.loop.n ≤ 4 ^ 26)

@@ -5,12 +5,12 @@ use mathlib.Core.Path.{refl, ap, ◌∙◌}
 use native.Mathlib.Omega.{arith}
 use borrow.Author.Rules.{rules}
 use borrow.Author.Tests.{not-true, not-false}
-use Rattle.solids.specs.Solids.{solidOf}
-use Rattle.solids.proofs.Numbers.{faces-few}
+use Rattle.solids.specs.Solids.{solid_of}
+use Rattle.solids.proofs.Numbers.{faces_few}
 use Rattle.refusals.specs.Answers.{done}
 use Rattle.codes.specs.Codes.{Formed}
 use Rattle.codes.proofs.Faults.{formed}
-use Rattle.points.proofs.Located.{head-refused, found-path, found-code}
+use Rattle.points.proofs.Located.{head_refused, found_path, found_code}
 use Rattle.points.proofs.locate.Statement.{statement}
 use Rattle.points.proofs.locate.Tie as tie
 
@@ -27,7 +27,7 @@ fault-requires c κs = search rules
 returns : tie.Need-returns
 returns c =
     let a = c.before.before.args in
-    head-refused a.solid a.face a.t a.l a.r a.depth c.before.fault.ensures c.if1.true
+    head_refused a.solid a.face a.t a.l a.r a.depth c.before.fault.ensures c.if1.true
 
 sums-to-whole-requires : tie.Need-sums-to-whole-requires
 sums-to-whole-requires c κs = search rules
@@ -55,16 +55,16 @@ join-requires : tie.Need-join-requires
 join-requires c κs =
     let a = c.before.before.before.before.before.args in
     let h = head c.before in
-    let q = found-path a.solid a.face a.t a.l a.r a.depth c.descend.result c.descend.ensures h.deep in
-    (omega (arith, h.known), omega (arith, h.on, faces-few (solidOf a.solid)), rw q.0 q.1, omega (arith, h.deep))
+    let q = found_path a.solid a.face a.t a.l a.r a.depth c.descend.result c.descend.ensures h.deep in
+    (omega (arith, h.known), omega (arith, h.on, faces_few (solid_of a.solid)), rw q.0 q.1, omega (arith, h.deep))
 
-returns-3 : tie.Need-returns-3
-returns-3 c =
+returns_3 : tie.Need-returns-3
+returns_3 c =
     let e = c.before.before in
     let a = e.before.before.before.before.args in
     let h = head e in
-    let q = found-path a.solid a.face a.t a.l a.r a.depth c.before.descend.result c.before.descend.ensures h.deep in
-    let v = c.join.ensures ∙ found-code a.solid a.face a.t a.l a.r a.depth h.known _ q.0 in
+    let q = found_path a.solid a.face a.t a.l a.r a.depth c.before.descend.result c.before.descend.ensures h.deep in
+    let v = c.join.ensures ∙ found_code a.solid a.face a.t a.l a.r a.depth h.known _ q.0 in
     inr (h.known, inr (h.on, inr (h.deep, inr (e.before.sums-to-whole.ensures.yes (not-false _ e.if2.false), ap done v))))
 
 pub locate-spec : {M : Type 1} → statement M
@@ -80,4 +80,4 @@ locate-spec =
     sub-path
     shl-path
     join-requires
-    returns-3)
+    returns_3)

@@ -24,15 +24,15 @@ sub-t10 c = search rules
 sub-t12 : tie.Need-overflow-sub-t12
 sub-t12 c = search rules
 
-returns-3 : tie.Need-returns-3
-returns-3 c = rw (lt-leb _ _ c.before.before.if1.false, lt-leb _ _ c.before.if2.false, le-leb _ _ c.if3.true) (refl, refl)
+returns_3 : tie.Need-returns-3
+returns_3 c = rw (lt-leb _ _ c.before.before.if1.false, lt-leb _ _ c.before.if2.false, le-leb _ _ c.if3.true) (refl, refl)
 
 sub-t5 : tie.Need-overflow-sub-t5
 sub-t5 c = search rules
 
-returns-4 : tie.Need-returns-4
-returns-4 c = rw (lt-leb _ _ c.before.before.if1.false, lt-leb _ _ c.before.if2.false, lt-leb _ _ c.if3.false) (refl, refl)
+returns_4 : tie.Need-returns-4
+returns_4 c = rw (lt-leb _ _ c.before.before.if1.false, lt-leb _ _ c.before.if2.false, lt-leb _ _ c.if3.false) (refl, refl)
 
 pub lower_spec : {M : Type 1} → statement M
 lower_spec =
-    tie.close (tie.spec add-h add-h-2 returns returns-2 sub-t10 sub-t12 returns-3 sub-t5 returns-4)
+    tie.close (tie.spec add-h add-h-2 returns returns-2 sub-t10 sub-t12 returns_3 sub-t5 returns_4)

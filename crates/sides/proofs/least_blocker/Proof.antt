@@ -5,8 +5,8 @@ use native.Mathlib.Omega.{arith}
 use borrow.Author.Rules.{rules}
 use lib.ListN.{length, get_or, take}
 use Rattle.sides.specs.Sides.{Stands, Blocker}
-use Rattle.sides.proofs.Candidates.{least-of-side}
-use Rattle.sides.proofs.Rows.{Seen, all_in, seen_none, seen_more, seen-row, seen_all, some-leaf, first-least}
+use Rattle.sides.proofs.Candidates.{least_of_side}
+use Rattle.sides.proofs.Rows.{Seen, all_in, seen_none, seen_more, seen_row, seen_all, some_leaf, first_least}
 use Rattle.sides.proofs.least_blocker.Statement.{statement}
 use Rattle.sides.proofs.least_blocker.Tie as tie
 
@@ -45,7 +45,7 @@ candidate-requires c κs = search rules
 shared-slice-read-if2 : tie.Need-shared-slice-read-if2 invariant-loop decreases-loop invariant-search decreases-search
 shared-slice-read-if2 c =
     let s = c.before.before.before.before.before.before.before.before.before.before in
-    omega (arith, some-leaf _ _ _ s.args.smaller _ s.requires.0 s.requires.1, s.requires.0)
+    omega (arith, some_leaf _ _ _ s.args.smaller _ s.requires.0 s.requires.1, s.requires.0)
 
 one_side : (c : tie.After-candidate invariant-loop decreases-loop invariant-search decreases-search) →
     let a = c.before.before.before.before.before.before.before.before.before.args in
@@ -56,7 +56,7 @@ one_side c =
     let s = c.before.before.before.before.before.before.before.before.before in
     let i = c.before.before.before.before.before.before.search.i in
     let m = c.before.side-of in
-    least-of-side _ _ _ _ (all_in _ _ _ i s.requires.1 (omega arith)) _ m.result _ m.ensures c.candidate.ensures
+    least_of_side _ _ _ _ (all_in _ _ _ i s.requires.1 (omega arith)) _ m.result _ m.ensures c.candidate.ensures
 
 lower-requires : tie.Need-lower-requires invariant-loop decreases-loop invariant-search decreases-search
 lower-requires c κs = search rules
@@ -79,7 +79,7 @@ search-less : tie.Need-search-smaller invariant-loop decreases-loop invariant-se
 search-less c = omega arith
 
 search-again : tie.Need-search-preserved invariant-loop decreases-loop invariant-search decreases-search
-search-again c = (omega arith, seen-row _ _ _ _ _ _ (omega arith) c.before.loop.invariant.1)
+search-again c = (omega arith, seen_row _ _ _ _ _ _ (omega arith) c.before.loop.invariant.1)
 
 returns : tie.Need-returns invariant-loop decreases-loop invariant-search decreases-search
 returns c = seen_all _ _ _ _ _ c.before.search.invariant.0 (omega arith) c.before.search.invariant.1
@@ -89,7 +89,7 @@ returns-2 c =
     let s = c.before.before.before.before.before.before.before.before.before.before.before in
     let i = c.before.before.before.before.before.before.before.before.search.i in
     let side = c.before.before.before.before.before.before.loop.side in
-    first-least _ _ _ _ _ s.requires.0 s.requires.1 i side c.before.before.candidate.result (omega arith) (omega arith) (omega arith)
+    first_least _ _ _ _ _ s.requires.0 s.requires.1 i side c.before.before.candidate.result (omega arith) (omega arith) (omega arith)
     (one_side c.before.before)
 
 pub least-blocker-spec : {M : Type 1} → statement M

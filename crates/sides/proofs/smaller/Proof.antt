@@ -3,7 +3,7 @@
 use mathlib.Core.Path.{◌≡◌, ◌∙◌, ap₂}
 use native.Mathlib.Omega.{arith}
 use borrow.Author.Rules.{rules}
-use Rattle.codes.proofs.Places.{child-place}
+use Rattle.codes.proofs.Places.{child_place}
 use Rattle.steps.specs.Edges.{first, second}
 use Rattle.soundness.specs.declared.Met.TheVariants.{Smaller}
 use Rattle.sides.proofs.smaller.Statement.{statement}
@@ -34,7 +34,7 @@ returns c =
     let v : s.args.side ≡ 0 = c.before.before.match.keys1 in
     let w = s.requires.0 in
     let d = s.requires.1 in
-    rw v (ap₂ Smaller (c.before.child-of.ensures ∙ child-place _ _ w d) (c.child-of2.ensures ∙ child-place _ _ w d))
+    rw v (ap₂ Smaller (c.before.child-of.ensures ∙ child_place _ _ w d) (c.child-of2.ensures ∙ child_place _ _ w d))
 
 returns-2 : tie.Need-returns-2
 unfolding first second
@@ -43,16 +43,16 @@ returns-2 c =
     let v : s.args.side ≡ 1 = c.before.before.match.keys2 in
     let w = s.requires.0 in
     let d = s.requires.1 in
-    rw v (ap₂ Smaller (c.before.child-of3.ensures ∙ child-place _ _ w d) (c.child-of4.ensures ∙ child-place _ _ w d))
+    rw v (ap₂ Smaller (c.before.child-of3.ensures ∙ child_place _ _ w d) (c.child-of4.ensures ∙ child_place _ _ w d))
 
-returns-3 : tie.Need-returns-3
+returns_3 : tie.Need-returns-3
 unfolding first second
-returns-3 c =
+returns_3 c =
     let s = c.before.before.before in
     let v : s.args.side ≡ 2 = omega arith in
     let w = s.requires.0 in
     let d = s.requires.1 in
-    rw v (ap₂ Smaller (c.before.child-of5.ensures ∙ child-place _ _ w d) (c.child-of6.ensures ∙ child-place _ _ w d))
+    rw v (ap₂ Smaller (c.before.child-of5.ensures ∙ child_place _ _ w d) (c.child-of6.ensures ∙ child_place _ _ w d))
 
 pub smaller-spec : {M : Type 1} → statement M
 smaller-spec =
@@ -66,4 +66,4 @@ smaller-spec =
     child-of-requires-6
     returns
     returns-2
-    returns-3)
+    returns_3)

@@ -2,7 +2,7 @@
 -- Assumes nothing.
 use Rattle.std.proofs.Common.{◌≡◌, ℕ, ◌+◌, ◌-◌, ◌<◌, ◌≤◌, get_or, take, subst, arith, length-take-le, get_or-take, rules, ltb-false, leb-true}
 use Rattle.slots.specs.Slots.{Within}
-use Rattle.slots.proofs.Search.{within-two}
+use Rattle.slots.proofs.Search.{within_two}
 use Rattle.slots.proofs.below_near.Statement.{statement}
 use Rattle.slots.proofs.below_near.Tie as tie
 
@@ -52,7 +52,7 @@ below-within-requires c κs =
       s.requires.1,
       omega arith,
       subst (Within (take a.n xs) a.key lo) e
-          (within-two (take a.n xs) a.key s.requires.1 lo hi (omega arith) (omega arith)
+          (within_two (take a.n xs) a.key s.requires.1 lo hi (omega arith) (omega arith)
           (omega (arith, get_or-take a.n xs lo 0 (omega arith))) (omega (arith, get_or-take a.n xs hi 0 h))),
     )
 
@@ -62,8 +62,8 @@ returns-2 c = search rules
 below-requires-2 : tie.Need-below-requires-2
 below-requires-2 c κs = search rules
 
-returns-3 : tie.Need-returns-3
-returns-3 c = search rules
+returns_3 : tie.Need-returns-3
+returns_3 c = search rules
 
 pub below-near-spec : {M : Type 1} → statement M
 below-near-spec =
@@ -82,4 +82,4 @@ below-near-spec =
     below-within-requires
     returns-2
     below-requires-2
-    returns-3)
+    returns_3)

@@ -2,7 +2,7 @@
 -- Assumes nothing.
 use Rattle.std.proofs.Common.{ℕ, ◌+◌, ◌/◌, ◌%◌, ◌<◌, ◌≤◌, take, sym, refl, subst, arith, length-take-le, get_or-take, rules}
 use Rattle.slots.specs.Slots.{Less, Within}
-use Rattle.slots.proofs.Search.{part-most, halved, below_last, below-first}
+use Rattle.slots.proofs.Search.{part_most, halved, below_last, below_first}
 use Rattle.slots.proofs.below_within.Statement.{statement}
 use Rattle.slots.proofs.below_within.Tie as tie
 
@@ -35,12 +35,12 @@ less-requires c κs = omega arith
 mul_at : tie.Need-overflow-mul-at invariant-loop decreases-loop
 mul_at c =
     let l = c.before.before.before.loop in
-    omega (arith, part-most (l.rest / 2) c.less.result c.less.ensures)
+    omega (arith, part_most (l.rest / 2) c.less.result c.less.ensures)
 
 add_at : tie.Need-overflow-add-at invariant-loop decreases-loop
 add_at c =
     let l = c.before.before.before.loop in
-    omega (arith, part-most (l.rest / 2) c.less.result c.less.ensures)
+    omega (arith, part_most (l.rest / 2) c.less.result c.less.ensures)
 
 sub-rest : tie.Need-overflow-sub-rest invariant-loop decreases-loop
 sub-rest c = omega arith
@@ -58,7 +58,7 @@ loop-again c =
     let r = c.less.result in
     let told = subst (λ (x : ℕ). Less (x / 2) (a.key / 2 + a.key % 2) r) (sym (get_or-take a.n xs (l.at + half) 0 (omega arith))) c.less.ensures in (
       omega arith,
-      omega (arith, part-most half r c.less.ensures),
+      omega (arith, part_most half r c.less.ensures),
       halved (take a.n xs) a.key s.requires.1 l.at l.rest half l.invariant.2 (omega arith) refl r told,
     )
 
@@ -84,7 +84,7 @@ returns-2 c =
     let s = c.before.before.before.before.before in
     let a = s.args in
     let l = c.before.before.before.loop in
-    below-first (take a.n a.slots.now) a.key s.requires.1 l.at l.rest l.invariant.2 (omega arith)
+    below_first (take a.n a.slots.now) a.key s.requires.1 l.at l.rest l.invariant.2 (omega arith)
     (omega (arith, c.if1.false, get_or-take a.n a.slots.now l.at 0 (omega arith)))
 
 pub below-within-spec : {M : Type 1} → statement M

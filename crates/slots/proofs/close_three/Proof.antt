@@ -2,7 +2,7 @@
 -- Assumes nothing.
 use Rattle.std.proofs.Common.{◌≡◌, ℕ, ◌+◌, ◌-◌, ◌≤◌, List, length, get_or, set, refl, ap, ◌∙◌, arith, length-set, rules}
 use Rattle.slots.specs.Slots.{closed}
-use Rattle.slots.proofs.Moves.{closed_none, closed-more}
+use Rattle.slots.proofs.Moves.{closed_none, closed_more}
 use Rattle.slots.proofs.close_three.Statement.{statement}
 use Rattle.slots.proofs.close_three.Tie as tie
 
@@ -44,7 +44,7 @@ loop-again c =
       omega arith,
       omega arith,
       simp length-set l.invariant.2,
-      ap (λ (t : List ℕ). set t l.k (get_or t (l.k + 3) 0)) l.invariant.3 ∙ closed-more xs a.at l.k (omega arith) (omega arith),
+      ap (λ (t : List ℕ). set t l.k (get_or t (l.k + 3) 0)) l.invariant.3 ∙ closed_more xs a.at l.k (omega arith) (omega arith),
     )
 
 same_length : tie.Need-same-length invariant-loop decreases-loop

@@ -1,7 +1,7 @@
 -- `close_three` takes three away, one store puts the code in place of the fourth, and three stores clear what is free.
 -- Assumes nothing.
 use Rattle.std.proofs.Common.{arith, length-set, rules}
-use Rattle.slots.proofs.Moves.{join-stores}
+use Rattle.slots.proofs.Moves.{join_stores}
 use Rattle.slots.proofs.join.Statement.{statement}
 use Rattle.slots.proofs.join.Tie as tie
 
@@ -52,7 +52,7 @@ returns c =
     let s = c.before.before.before.before.before in
     let a = s.args in
     let o = c.before.before.close-three in
-    join-stores a.slots.now a.at a.n s.requires.0 s.requires.1 a.code o.new.0 (omega arith) o.ensures
+    join_stores a.slots.now a.at a.n s.requires.0 s.requires.1 a.code o.new.0 (omega arith) o.ensures
 
 pub join-spec : {M : Type 1} → statement M
 join-spec =

@@ -2,7 +2,7 @@
 -- Assumes nothing.
 use Rattle.std.proofs.Common.{◌≡◌, ℕ, suc, ◌+◌, ◌-◌, ◌≤◌, List, length, get_or, set, refl, ap, ◌∙◌, arith, length-set, rules}
 use Rattle.slots.specs.Slots.{opened}
-use Rattle.slots.proofs.Moves.{opened-none, opened-more}
+use Rattle.slots.proofs.Moves.{opened_none, opened_more}
 use Rattle.slots.proofs.open_three.Statement.{statement}
 use Rattle.slots.proofs.open_three.Tie as tie
 
@@ -13,7 +13,7 @@ abbrev decreases-loop : tie.decreases-loop
 decreases-loop slots₀ at n k₀ slots k = k
 
 loop-holds : tie.Need-loop-init invariant-loop decreases-loop
-loop-holds c = (omega arith, omega arith, refl, opened-none c.args.slots.now c.args.n (omega arith))
+loop-holds c = (omega arith, omega arith, refl, opened_none c.args.slots.now c.args.n (omega arith))
 
 sub-k : tie.Need-overflow-sub-k invariant-loop decreases-loop
 sub-k c = omega arith
@@ -47,7 +47,7 @@ loop-again c =
       omega arith,
       simp length-set l.invariant.2,
       ap (λ (t : List ℕ). set t (k + 3) (get_or t k 0)) (l.invariant.3 ∙ ap (λ (i : ℕ). opened xs i a.n) e)
-          ∙ opened-more xs a.n (omega arith) k (omega arith),
+          ∙ opened_more xs a.n (omega arith) k (omega arith),
     )
 
 same_length : tie.Need-same-length invariant-loop decreases-loop

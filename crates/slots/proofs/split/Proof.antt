@@ -1,7 +1,7 @@
 -- `open_three` makes room for three more, and four stores fill it.
 -- Assumes nothing.
 use Rattle.std.proofs.Common.{arith, length-set, rules}
-use Rattle.slots.proofs.Moves.{split-stores}
+use Rattle.slots.proofs.Moves.{split_stores}
 use Rattle.slots.proofs.split.Statement.{statement}
 use Rattle.slots.proofs.split.Tie as tie
 
@@ -52,7 +52,7 @@ returns c =
     let s = c.before.before.before.before.before in
     let a = s.args in
     let o = c.before.before.open-three in
-    split-stores a.slots.now a.at a.n s.requires.0 s.requires.1 o.new.0 a.a a.b a.c a.d (omega arith) o.ensures
+    split_stores a.slots.now a.at a.n s.requires.0 s.requires.1 o.new.0 a.a a.b a.c a.d (omega arith) o.ensures
 
 pub split-spec : {M : Type 1} → statement M
 split-spec =

@@ -1,7 +1,7 @@
 -- The slots from `n` up to `i` are joined, and what is joined is zero only where each of them is.
 -- Assumes nothing.
 use Rattle.std.proofs.Common.{◌≡◌, ℕ, ◌-◌, ◌≤◌, length, subst, arith, rules}
-use Rattle.slots.proofs.Zeros.{Joined, joined-none, joined-more, joined-tells}
+use Rattle.slots.proofs.Zeros.{Joined, joined_none, joined_more, joined_tells}
 use Rattle.slots.proofs.zeros_from.Statement.{statement}
 use Rattle.slots.proofs.zeros_from.Tie as tie
 
@@ -12,7 +12,7 @@ abbrev decreases-loop : tie.decreases-loop
 decreases-loop slots n joined₀ i₀ joined i = length slots - i
 
 loop-holds : tie.Need-loop-init invariant-loop decreases-loop
-loop-holds c = (omega arith, omega arith, joined-none c.args.slots.now c.args.n)
+loop-holds c = (omega arith, omega arith, joined_none c.args.slots.now c.args.n)
 
 mul-joined : tie.Need-overflow-mul-joined invariant-loop decreases-loop
 mul-joined c = search rules
@@ -30,14 +30,14 @@ loop-again : tie.Need-loop-preserved invariant-loop decreases-loop
 loop-again c =
     let a = c.before.before.before.args in
     let l = c.before.before.loop in
-    (omega arith, omega arith, joined-more a.slots.now a.n l.i l.joined (omega arith) (omega arith) l.invariant.2)
+    (omega arith, omega arith, joined_more a.slots.now a.n l.i l.joined (omega arith) (omega arith) l.invariant.2)
 
 returns : tie.Need-returns invariant-loop decreases-loop
 returns c =
     let s = c.before.before in
     let l = c.before.loop in
     let e : l.i ≡ length s.args.slots.now = omega arith in
-    joined-tells s.args.slots.now s.args.n l.joined s.requires (subst (λ (i : ℕ). Joined s.args.slots.now s.args.n i l.joined) e l.invariant.2)
+    joined_tells s.args.slots.now s.args.n l.joined s.requires (subst (λ (i : ℕ). Joined s.args.slots.now s.args.n i l.joined) e l.invariant.2)
 
 pub zeros-from-spec : {M : Type 1} → statement M
 zeros-from-spec =

@@ -12,8 +12,8 @@ returns c = search rules
 returns-2 : tie.Need-returns-2
 returns-2 c = search rules
 
-returns-3 : tie.Need-returns-3
-returns-3 c = let e : c.before.args.solid ≡ 3 = omega arith in rw e
+returns_3 : tie.Need-returns-3
+returns_3 c = let e : c.before.args.solid ≡ 3 = omega arith in rw e
 
 pub faces-of-spec : {M : Type 1} → statement M
-faces-of-spec = tie.close (tie.spec returns returns-2 returns-3)
+faces-of-spec = tie.close (tie.spec returns returns-2 returns_3)

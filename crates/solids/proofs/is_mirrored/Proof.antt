@@ -3,9 +3,9 @@
 use mathlib.Core.Path.{ap, sym, ◌∙◌}
 use Prim.Native.Nat.{ℕ}
 use borrow.Author.Rules.{rules}
-use Rattle.solids.specs.Solids.{solidOf}
-use Rattle.solids.proofs.Numbers.{no-solid}
-use Rattle.solids.proofs.Rows.{isMirrored, seam-told}
+use Rattle.solids.specs.Solids.{solid_of}
+use Rattle.solids.proofs.Numbers.{no_solid}
+use Rattle.solids.proofs.Rows.{is_mirrored, seam_told}
 use Rattle.solids.proofs.is_mirrored.Statement.{statement}
 use Rattle.solids.proofs.is_mirrored.Tie as tie
 
@@ -21,8 +21,8 @@ shr-on-side c = search rules
 returns : tie.Need-returns
 returns c =
     let a = c.args in
-    ap (λ (n : ℕ). isMirrored n a.side a.face) (sym (no-solid a.solid c.requires.0))
-    ∙ seam-told (solidOf a.solid) a.side a.face c.requires.1
+    ap (λ (n : ℕ). is_mirrored n a.side a.face) (sym (no_solid a.solid c.requires.0))
+    ∙ seam_told (solid_of a.solid) a.side a.face c.requires.1
 
 pub is-mirrored-spec : {M : Type 1} → statement M
 is-mirrored-spec = tie.close (tie.spec mul-on-side add-on-side shr-on-side returns)

@@ -3,7 +3,7 @@
 use mathlib.Core.Path.{◌≡◌}
 use Prim.Native.Nat.{◌<◌}
 use native.Mathlib.Omega.{arith}
-use Rattle.solids.specs.Solids.{solidOf, faces}
+use Rattle.solids.specs.Solids.{solid_of, faces}
 use Rattle.solids.proofs.next_face.Statement.{statement}
 use Rattle.solids.proofs.next_face.Tie as tie
 
@@ -11,21 +11,21 @@ next-face-requires : tie.Need-next-face-requires
 next-face-requires c κs =
     let a = c.before.args in
     let e : a.solid ≡ 1 = omega arith in
-    let h : a.face < faces (solidOf 1) = rw e at c.before.requires.2 in
+    let h : a.face < faces (solid_of 1) = rw e at c.before.requires.2 in
     (omega arith, omega arith)
 
 next-face-requires-2 : tie.Need-next-face-requires-2
 next-face-requires-2 c κs =
     let a = c.before.args in
     let e : a.solid ≡ 2 = omega arith in
-    let h : a.face < faces (solidOf 2) = rw e at c.before.requires.2 in
+    let h : a.face < faces (solid_of 2) = rw e at c.before.requires.2 in
     (omega arith, omega arith)
 
 next-face-requires-3 : tie.Need-next-face-requires-3
 next-face-requires-3 c κs =
     let a = c.before.args in
     let e : a.solid ≡ 3 = omega arith in
-    let h : a.face < faces (solidOf 3) = rw e at c.before.requires.2 in
+    let h : a.face < faces (solid_of 3) = rw e at c.before.requires.2 in
     (omega arith, omega arith)
 
 returns : tie.Need-returns
@@ -38,8 +38,8 @@ returns-2 c =
     let e : c.before.before.args.solid ≡ 2 = omega arith in
     rw e c.next-face2.ensures
 
-returns-3 : tie.Need-returns-3
-returns-3 c =
+returns_3 : tie.Need-returns-3
+returns_3 c =
     let e : c.before.before.args.solid ≡ 3 = omega arith in
     rw e c.next-face3.ensures
 
@@ -52,4 +52,4 @@ next-face-spec =
     next-face-requires-3
     returns
     returns-2
-    returns-3)
+    returns_3)

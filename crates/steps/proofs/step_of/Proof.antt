@@ -2,7 +2,7 @@
 -- Assumes nothing.
 use Rattle.steps.specs.Words.{Over}
 use Rattle.std.proofs.Common.{◌∙◌, rules}
-use Rattle.steps.proofs.Words.{aligned, over-told, over-tidy, go-inside, over-carried}
+use Rattle.steps.proofs.Words.{aligned, over_told, over_tidy, go_inside, over_carried}
 use Rattle.steps.proofs.step_of.Statement.{statement}
 use Rattle.steps.proofs.step_of.Tie as tie
 
@@ -10,7 +10,7 @@ use Rattle.steps.proofs.step_of.Tie as tie
 over : (c : tie.After-carry) → let a = c.before.before.before.args in Over a.code a.side c.carry.result.path c.carry.result.lost
 over c =
     let b = c.before.before.before in
-    over-carried b.args.code b.args.side b.requires.0 c.before.depth-of.result c.before.before.word_of.result
+    over_carried b.args.code b.args.side b.requires.0 c.before.depth-of.result c.before.before.word_of.result
     c.carry.result.path c.carry.result.lost c.before.depth-of.ensures c.before.before.word_of.ensures c.carry.ensures
 
 word-of-requires : tie.Need-word-of-requires
@@ -28,7 +28,7 @@ carry-requires c κs =
 over-seam-requires : tie.Need-over-seam-requires
 over-seam-requires c κs =
     let b = c.before.before.before.before in
-    (b.requires.0, b.requires.1, over-told b.args.code b.args.side b.requires.0 c.if1.true (over c.before))
+    (b.requires.0, b.requires.1, over_told b.args.code b.args.side b.requires.0 c.if1.true (over c.before))
 
 returns : tie.Need-returns
 returns c = search rules
@@ -36,13 +36,13 @@ returns c = search rules
 with-path-requires : tie.Need-with-path-requires
 with-path-requires c κs =
     let b = c.before.before.before.before in
-    (c.before.before.before.word_of.ensures, over-tidy b.args.code b.args.side b.requires.0 (over c.before))
+    (c.before.before.before.word_of.ensures, over_tidy b.args.code b.args.side b.requires.0 (over c.before))
 
 returns-2 : tie.Need-returns-2
 returns-2 c =
     let b = c.before.before.before.before.before in
     let a = b.args in
-    c.with-path.ensures ∙ go-inside a.code a.side b.requires.0 (over-told a.code a.side b.requires.0 c.before.if1.false (over c.before.before))
+    c.with-path.ensures ∙ go_inside a.code a.side b.requires.0 (over_told a.code a.side b.requires.0 c.before.if1.false (over c.before.before))
 
 pub step-of-spec : {M : Type 1} → statement M
 step-of-spec =

@@ -7,7 +7,7 @@ use native.Mathlib.Omega.{arith}
 use lib.ListN.{length, take, length-set}
 use lib.Seq.{take-length}
 use borrow.Author.Rules.{rules}
-use Rattle.text.proofs.Text.{put-more}
+use Rattle.text.proofs.Text.{put_more}
 use Rattle.text.proofs.put.Statement.{statement}
 use Rattle.text.proofs.put.Tie as tie
 
@@ -47,7 +47,7 @@ loop-again c =
     let h : l.i < length a.text.now = omega arith in (
       omega arith,
       length-set l.page (a.at + l.i) _ ∙ l.invariant.1,
-      put-more a.page.now l.page a.text.now a.at l.i h (omega (arith, h, l.invariant.1, c.before.before.before.requires)) l.invariant.2,
+      put_more a.page.now l.page a.text.now a.at l.i h (omega (arith, h, l.invariant.1, c.before.before.before.requires)) l.invariant.2,
     )
 
 add-result : tie.Need-overflow-add-result invariant-loop decreases-loop

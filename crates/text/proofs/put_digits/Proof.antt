@@ -9,7 +9,7 @@ use lib.ListN.{length, take, drop, set, length-set}
 use lib.Seq.{take-set-le}
 use borrow.Author.Rules.{rules}
 use Rattle.text.specs.Text.{digits}
-use Rattle.text.proofs.Text.{digits_more, digits-end}
+use Rattle.text.proofs.Text.{digits_more, digits_end}
 use Rattle.text.proofs.put_digits.Statement.{statement}
 use Rattle.text.proofs.put_digits.Tie as tie
 
@@ -73,7 +73,7 @@ returns : tie.Need-returns invariant-loop decreases-loop
 returns c =
     let l = c.before.loop in
     let a = c.before.before.before.args in
-    digits-end a.page.now l.page a.base a.count a.number a.at l.i l.rest (omega arith) l.invariant.2 l.invariant.3
+    digits_end a.page.now l.page a.base a.count a.number a.at l.i l.rest (omega arith) l.invariant.2 l.invariant.3
 
 pub put-digits-spec : {M : Type 1} → statement M
 put-digits-spec =

@@ -6,7 +6,7 @@ use native.Mathlib.Omega.{arith}
 use lib.ListN.{take, drop}
 use borrow.Author.Rules.{rules}
 use Rattle.text.specs.Text.{digits}
-use Rattle.text.proofs.Text.{read_fits, read-bound, read_more, read-other, digit-is, digit-none}
+use Rattle.text.proofs.Text.{read_fits, read_bound, read_more, read_other, digit_is, digit_none}
 use Rattle.text.proofs.read_hex.Statement.{statement}
 use Rattle.text.proofs.read_hex.Tie as tie
 
@@ -33,7 +33,7 @@ returns : tie.Need-returns invariant-loop decreases-loop
 returns c =
     let a = c.before.before.before.before.before.before.args in
     let l = c.before.before.before.before.loop in
-    read-other a.bytes.now a.at 16 l.i (omega arith) (digit-none _ _ c.before.digit.ensures c.if1.true)
+    read_other a.bytes.now a.at 16 l.i (omega arith) (digit_none _ _ c.before.digit.ensures c.if1.true)
 
 mul-number : tie.Need-overflow-mul-number invariant-loop decreases-loop
 mul-number c = omega (arith, read_fits _ _ c.before.before.before.before.loop.invariant.1 (omega arith))
@@ -51,9 +51,9 @@ loop-again : tie.Need-loop-preserved invariant-loop decreases-loop
 loop-again c =
     let a = c.before.before.before.before.before.before.args in
     let l = c.before.before.before.before.loop in
-    let s = digit-is _ _ c.before.digit.ensures (omega arith) in (
+    let s = digit_is _ _ c.before.digit.ensures (omega arith) in (
       omega arith,
-      read-bound l.number l.i _ l.invariant.1 (omega arith) s.0,
+      read_bound l.number l.i _ l.invariant.1 (omega arith) s.0,
       read_more a.bytes.now a.at l.i (omega (arith, c.before.before.before.before.before.before.requires)) l.number _ l.invariant.2 s,
     )
 

@@ -6,8 +6,8 @@ use Prim.Native.Nat.{◌+◌, ◌-◌, ◌*◌, ◌/◌, ◌%◌, ◌^◌, ◌�
 use native.Mathlib.Omega.{arith}
 use borrow.Author.Rules.{rules}
 use Rattle.soundness.specs.Inner.{Gap}
-use Rattle.soundness.proofs.Tiles.{gap-refl, gap-trans}
-use Rattle.tiling.proofs.Places.{face-gap}
+use Rattle.soundness.proofs.Tiles.{gap_refl, gap_trans}
+use Rattle.tiling.proofs.Places.{face_gap}
 use Rattle.tiling.proofs.next_place.Statement.{statement}
 use Rattle.tiling.proofs.next_place.Tie as tie
 
@@ -18,7 +18,7 @@ abbrev decreases-loop : tie.decreases-loop
 decreases-loop faces last place p₀ p = last - p
 
 loop-holds : tie.Need-loop-init invariant-loop decreases-loop
-loop-holds c = (search rules, gap-refl _ _ _ refl)
+loop-holds c = (search rules, gap_refl _ _ _ refl)
 
 in-faces-requires : tie.Need-in-faces-requires invariant-loop decreases-loop
 in-faces-requires c κs = search rules
@@ -39,8 +39,8 @@ loop-again c =
     let l = c.before.before.before.loop in
     let a = c.before.before.before.before.args in
     let e : (l.p / 2 ^ 52 + 1) * 2 ^ 52 ≡ (l.p / 2 ^ 52 + 1) * 2 ^ 52 % 2 ^ 64 = omega arith in
-    let g = face-gap a.faces l.p (c.before.in-faces.ensures.no c.if1.false) in
-    (omega arith, subst (Gap a.faces a.place) e (gap-trans a.faces a.place l.p _ l.invariant.1 g))
+    let g = face_gap a.faces l.p (c.before.in-faces.ensures.no c.if1.false) in
+    (omega arith, subst (Gap a.faces a.place) e (gap_trans a.faces a.place l.p _ l.invariant.1 g))
 
 returns-2 : tie.Need-returns-2 invariant-loop decreases-loop
 returns-2 c =

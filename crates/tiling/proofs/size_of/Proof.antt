@@ -1,7 +1,7 @@
 -- A cell has 4 ^ (26 - depth) places, a power of two that fits a word.
 -- Assumes nothing.
 use borrow.Author.Rules.{rules}
-use Rattle.tiling.proofs.Places.{size-bits}
+use Rattle.tiling.proofs.Places.{size_bits}
 use Rattle.tiling.proofs.size_of.Statement.{statement}
 use Rattle.tiling.proofs.size_of.Tie as tie
 
@@ -15,7 +15,7 @@ shl-result : tie.Need-overflow-shl-result
 shl-result c = search rules
 
 returns : tie.Need-returns
-returns c = size-bits c.args.depth c.requires
+returns c = size_bits c.args.depth c.requires
 
 pub size-of-spec : {M : Type 1} → statement M
 size-of-spec = tie.close (tie.spec mul-result sub-result shl-result returns)

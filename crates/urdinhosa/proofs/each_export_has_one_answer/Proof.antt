@@ -1,25 +1,25 @@
 -- One reply, by the laws of the call, is one number and one row, by proofs/Exports.
 -- Assumes nothing.
 use Rattle.codes.specs.Calls.{Packed, ParentOf, ChildOf}
-use Rattle.codes.proofs.Calls.{pack-single, parent-single, child-single}
+use Rattle.codes.proofs.Calls.{pack_single, parent_single, child_single}
 use Rattle.steps.specs.Stepped.{Stepped}
-use Rattle.steps.proofs.Stepped.{stepped-single}
+use Rattle.steps.proofs.Stepped.{stepped_single}
 use Rattle.points.specs.Located.{Located}
-use Rattle.points.proofs.Located.{located-single}
-use Rattle.urdinhosa.proofs.Exports.{gives-single, writes-single}
+use Rattle.points.proofs.Located.{located_single}
+use Rattle.urdinhosa.proofs.Exports.{gives_single, writes_single}
 use Rattle.urdinhosa.proofs.each_export_has_one_answer.Statement.{statement}
 use Rattle.urdinhosa.proofs.each_export_has_one_answer.Tie as tie
 
 returns : tie.Need-returns
 returns c = (
-  (λ s f p d. gives-single (Packed s f p d) (pack-single s f p d)),
+  (λ s f p d. gives_single (Packed s f p d) (pack_single s f p d)),
   (
-    (λ x. gives-single (ParentOf x) (parent-single x)),
+    (λ x. gives_single (ParentOf x) (parent_single x)),
     (
-      (λ x q. gives-single (ChildOf x q) (child-single x q)),
+      (λ x q. gives_single (ChildOf x q) (child_single x q)),
       (
-        (λ s f t l r d. gives-single (Located s f t l r d) (located-single s f t l r d)),
-        ((λ x s. gives-single (Stepped x s) (stepped-single x s)), writes-single),
+        (λ s f t l r d. gives_single (Located s f t l r d) (located_single s f t l r d)),
+        ((λ x s. gives_single (Stepped x s) (stepped_single x s)), writes_single),
       ),
     ),
   ),

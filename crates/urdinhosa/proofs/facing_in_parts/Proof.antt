@@ -2,7 +2,7 @@
 -- Assumes nothing.
 use mathlib.Core.Path.{ap, sym, ◌∙◌}
 use borrow.Author.Rules.{rules}
-use Rattle.mesh.specs.Answers.{acrossReply}
+use Rattle.mesh.specs.Answers.{across_reply}
 use Rattle.urdinhosa.proofs.facing_in_parts.Statement.{statement}
 use Rattle.urdinhosa.proofs.facing_in_parts.Tie as tie
 
@@ -16,10 +16,10 @@ enum-known-facing-2 : tie.Need-enum-known-facing-2
 enum-known-facing-2 c = search rules
 
 returns : tie.Need-returns
-returns c = c.side-in-parts.ensures ∙ sym (ap acrossReply c.before.before.facing.given.1)
+returns c = c.side-in-parts.ensures ∙ sym (ap across_reply c.before.before.facing.given.1)
 
 returns-2 : tie.Need-returns-2
-returns-2 c = sym (ap acrossReply c.before.facing2.given.1)
+returns-2 c = sym (ap across_reply c.before.facing2.given.1)
 
 pub facing-in-parts-spec : {M : Type 1} → statement M
 facing-in-parts-spec =

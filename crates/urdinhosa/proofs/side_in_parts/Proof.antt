@@ -24,11 +24,11 @@ returns c = sym (ap crossing c.before.met.given.1)
 returns-2 : tie.Need-returns-2
 returns-2 c = sym (ap crossing c.before.met2.given.1)
 
-returns-3 : tie.Need-returns-3
-returns-3 c = sym (ap crossing c.before.met3.given.1)
+returns_3 : tie.Need-returns-3
+returns_3 c = sym (ap crossing c.before.met3.given.1)
 
-returns-4 : tie.Need-returns-4
-returns-4 c = sym (ap crossing c.enum_told.given.1)
+returns_4 : tie.Need-returns-4
+returns_4 c = sym (ap crossing c.enum_told.given.1)
 
 pub side-in-parts-spec : {M : Type 1} → statement M
 side-in-parts-spec =
@@ -40,5 +40,5 @@ side-in-parts-spec =
     enum_told
     returns
     returns-2
-    returns-3
-    returns-4)
+    returns_3
+    returns_4)

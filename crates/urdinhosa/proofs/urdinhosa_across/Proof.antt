@@ -8,7 +8,7 @@ use mir.Facts.{to_z-of_z}
 use mir.Val.{SFits}
 use Rattle.mesh.specs.Calls.{AcrossOf}
 use Rattle.examine.specs.Examined.{whole_of}
-use Rattle.urdinhosa.specs.Exports.{toldSide}
+use Rattle.urdinhosa.specs.Exports.{told_side}
 use Rattle.urdinhosa.proofs.urdinhosa_across.Statement.{statement}
 use Rattle.urdinhosa.proofs.urdinhosa_across.Tie as tie
 
@@ -25,7 +25,7 @@ returns c =
     let p = c.before.facing-in-parts in
     let fits : SFits w64 p.result.level = search rules in
     let side = subst (AcrossOf (whole_of xs) xs a.leaf a.direction) (sym p.ensures) c.before.before.across.ensures in
-    subst (λ (d : ℤ). AcrossOf (whole_of xs) xs a.leaf a.direction (toldSide p.result.number d p.result.first p.result.second)) (sym (to_z-of_z fits)) side
+    subst (λ (d : ℤ). AcrossOf (whole_of xs) xs a.leaf a.direction (told_side p.result.number d p.result.first p.result.second)) (sym (to_z-of_z fits)) side
 
 pub urdinhosa-across-spec : {M : Type 1} → statement M
 urdinhosa-across-spec = tie.close (tie.spec across-requires facing-in-parts-requires returns)

@@ -2,11 +2,11 @@
 -- Assumes nothing.
 use mathlib.Core.Path.{◌≡◌, ap, sym, ◌∙◌, subst}
 use borrow.Author.Rules.{rules}
-use Rattle.mesh.specs.Answers.{outcome, changeReply, told}
+use Rattle.mesh.specs.Answers.{outcome, change_reply, told}
 use Rattle.mesh.specs.Calls.{Freshened}
 use Rattle.refusals.specs.Answers.{Reply}
-use Rattle.soundness.specs.Regions.{allFaces}
-use Rattle.urdinhosa.proofs.Exports.{fresh-value}
+use Rattle.soundness.specs.Regions.{all_faces}
+use Rattle.urdinhosa.proofs.Exports.{fresh_value}
 use Rattle.urdinhosa.proofs.urdinhosa_fresh.Statement.{statement}
 use Rattle.urdinhosa.proofs.urdinhosa_fresh.Tie as tie
 
@@ -26,8 +26,8 @@ returns c =
     let m = c.before.before.before.fresh in
     let p = c.in_parts in
     let none : p.result.value ≡ 0 =
-    ap (λ (r : Reply). r.value) p.ensures ∙ fresh-value a.solid (allFaces a.solid) xs (outcome (changeReply m.result) m.new.0) m.ensures in
-    subst (λ (r : Reply). Freshened a.solid (allFaces a.solid) xs (outcome r m.new.0)) (sym p.ensures ∙ ap (told p.result.number) none) m.ensures
+    ap (λ (r : Reply). r.value) p.ensures ∙ fresh_value a.solid (all_faces a.solid) xs (outcome (change_reply m.result) m.new.0) m.ensures in
+    subst (λ (r : Reply). Freshened a.solid (all_faces a.solid) xs (outcome r m.new.0)) (sym p.ensures ∙ ap (told p.result.number) none) m.ensures
 
 pub urdinhosa-fresh-spec : {M : Type 1} → statement M
 urdinhosa-fresh-spec = tie.close (tie.spec fresh-requires in-parts-requires same_length returns)

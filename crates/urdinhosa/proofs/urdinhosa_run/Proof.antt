@@ -2,7 +2,7 @@
 -- Assumes nothing.
 use mathlib.Core.Path.{subst}
 use borrow.Author.Rules.{rules}
-use Rattle.mesh.specs.Answers.{boundsReply}
+use Rattle.mesh.specs.Answers.{bounds_reply}
 use Rattle.mesh.specs.Calls.{BoundsOf}
 use Rattle.examine.specs.Examined.{whole_of}
 use Rattle.mesh.specs.declared.Extent.{Extent}
@@ -22,13 +22,13 @@ returns : tie.Need-returns
 returns c =
     let a = c.before.before.before.before.before.args in
     let xs = a.slots.now in
-    subst (λ (e : Extent). BoundsOf (whole_of xs) xs a.cell (boundsReply e)) c.before.from.given.1 c.before.before.before.bounds.ensures
+    subst (λ (e : Extent). BoundsOf (whole_of xs) xs a.cell (bounds_reply e)) c.before.from.given.1 c.before.before.before.bounds.ensures
 
 returns-2 : tie.Need-returns-2
 returns-2 c =
     let a = c.before.before.before.before.before.args in
     let xs = a.slots.now in
-    subst (λ (e : Extent). BoundsOf (whole_of xs) xs a.cell (boundsReply e)) c.before.number.given.1 c.before.before.before.bounds.ensures
+    subst (λ (e : Extent). BoundsOf (whole_of xs) xs a.cell (bounds_reply e)) c.before.number.given.1 c.before.before.before.bounds.ensures
 
 pub urdinhosa-run-spec : {M : Type 1} → statement M
 urdinhosa-run-spec =

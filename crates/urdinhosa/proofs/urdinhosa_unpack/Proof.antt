@@ -2,7 +2,7 @@
 -- Assumes nothing.
 use mathlib.Core.Path.{refl, subst}
 use borrow.Author.Rules.{rules}
-use Rattle.codes.specs.Calls.{fields, unpacked, notUnpacked, Unpacked}
+use Rattle.codes.specs.Calls.{fields, unpacked, not_unpacked, Unpacked}
 use Rattle.codes.specs.declared.Fields.{Fields}
 use Rattle.urdinhosa.proofs.urdinhosa_unpack.Statement.{statement}
 use Rattle.urdinhosa.proofs.urdinhosa_unpack.Tie as tie
@@ -32,7 +32,7 @@ returns-2 c =
     let u = c.before.before.before.before in
     let g = c.before.before.number.given in
     record {
-      answer = notUnpacked g.0.0;
+      answer = not_unpacked g.0.0;
       meets = subst (λ (e : Fields). Unpacked u.before.args.code (fields e)) g.1 u.unpack.ensures;
       number = refl;
       slots = refl;

@@ -16,13 +16,13 @@ returns-2 : tie.Need-returns-2
 unfolding turn_of stops replaced
 returns-2 c = turn_is c.before.match.keys1 c.match2.keys2
 
-returns-3 : tie.Need-returns-3
+returns_3 : tie.Need-returns-3
 unfolding turn_of stops replaced
-returns-3 c = turn_is c.before.match.keys1 c.match2.keys3
+returns_3 c = turn_is c.before.match.keys1 c.match2.keys3
 
-returns-4 : tie.Need-returns-4
+returns_4 : tie.Need-returns-4
 unfolding turn_of stops replaced
-returns-4 c = let d : c.before.before.args.digit ≡ 3 = omega arith in turn_is c.before.match.keys1 d
+returns_4 c = let d : c.before.before.args.digit ≡ 3 = omega arith in turn_is c.before.match.keys1 d
 
 returns-5 : tie.Need-returns-5
 unfolding turn_of stops replaced
@@ -36,21 +36,21 @@ returns-7 : tie.Need-returns-7
 unfolding turn_of stops replaced
 returns-7 c = turn_is c.before.match.keys2 c.match3.keys3
 
-returns-8 : tie.Need-returns-8
+returns_8 : tie.Need-returns-8
 unfolding turn_of stops replaced
-returns-8 c = let d : c.before.before.args.digit ≡ 3 = omega arith in turn_is c.before.match.keys2 d
+returns_8 c = let d : c.before.before.args.digit ≡ 3 = omega arith in turn_is c.before.match.keys2 d
 
-returns-9 : tie.Need-returns-9
+returns_9 : tie.Need-returns-9
 unfolding turn_of stops replaced
-returns-9 c = let s : c.before.before.args.side ≡ 2 = omega arith in turn_is s c.match4.keys1
+returns_9 c = let s : c.before.before.args.side ≡ 2 = omega arith in turn_is s c.match4.keys1
 
-returns-10 : tie.Need-returns-10
+returns_10 : tie.Need-returns-10
 unfolding turn_of stops replaced
-returns-10 c = let s : c.before.before.args.side ≡ 2 = omega arith in turn_is s c.match4.keys2
+returns_10 c = let s : c.before.before.args.side ≡ 2 = omega arith in turn_is s c.match4.keys2
 
-returns-11 : tie.Need-returns-11
+returns_11 : tie.Need-returns-11
 unfolding turn_of stops replaced
-returns-11 c = let s : c.before.before.args.side ≡ 2 = omega arith in turn_is s c.match4.keys3
+returns_11 c = let s : c.before.before.args.side ≡ 2 = omega arith in turn_is s c.match4.keys3
 
 returns-12 : tie.Need-returns-12
 unfolding turn_of stops replaced
@@ -65,13 +65,13 @@ turn-at-spec =
     (tie.spec
     returns
     returns-2
-    returns-3
-    returns-4
+    returns_3
+    returns_4
     returns-5
     returns-6
     returns-7
-    returns-8
-    returns-9
-    returns-10
-    returns-11
+    returns_8
+    returns_9
+    returns_10
+    returns_11
     returns-12)

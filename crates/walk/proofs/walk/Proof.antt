@@ -27,11 +27,11 @@ enum-known-digit : tie.Need-enum-known-digit invariant-loop decreases-loop
 enum-known-digit c = search rules
 
 -- what is known where a digit stops
-at-stop : (c : tie.After-known-told invariant-loop decreases-loop) →
+at_stop : (c : tie.After-known-told invariant-loop decreases-loop) →
     let a = c.before.before.before.before.before.before.args in
     let l = c.before.before.before.before.before.loop in
     Stopped a.side a.path a.depth l.low l.place l.rest c.before.digit.given.0.0
-at-stop c =
+at_stop c =
     let b = c.before.before.before.before.before in
     let a = b.before.args in
     let l = b.loop in
@@ -39,29 +39,29 @@ at-stop c =
     stopped l.left l.invariant (omega arith) b.before.requires.1 t
 
 mul-t14 : tie.Need-overflow-mul-t14 invariant-loop decreases-loop
-mul-t14 c = omega (arith, at-stop c)
+mul-t14 c = omega (arith, at_stop c)
 
 add-t15 : tie.Need-overflow-add-t15 invariant-loop decreases-loop
-add-t15 c = omega (arith, at-stop c)
+add-t15 c = omega (arith, at_stop c)
 
 mul-t16 : tie.Need-overflow-mul-t16 invariant-loop decreases-loop
-mul-t16 c = omega (arith, at-stop c)
+mul-t16 c = omega (arith, at_stop c)
 
 add-t17 : tie.Need-overflow-add-t17 invariant-loop decreases-loop
-add-t17 c = omega (arith, at-stop c)
+add-t17 c = omega (arith, at_stop c)
 
 returns : tie.Need-returns invariant-loop decreases-loop
-returns c = (at-stop c).walks
+returns c = (at_stop c).walks
 
 enum-known-digit-2 : tie.Need-enum-known-digit-2 invariant-loop decreases-loop
 enum-known-digit-2 c = search rules
 
 -- what is known where a digit climbs
-at-climb : (c : tie.After-known-told2 invariant-loop decreases-loop) →
+at_climb : (c : tie.After-known-told2 invariant-loop decreases-loop) →
     let a = c.before.before.before.before.before.before.args in
     let l = c.before.before.before.before.before.loop in
     Climbed a.side a.path a.depth l.low l.place l.rest l.left c.before.digit2.given.0.0
-at-climb c =
+at_climb c =
     let b = c.before.before.before.before.before in
     let a = b.before.args in
     let l = b.loop in
@@ -69,13 +69,13 @@ at-climb c =
     climbed l.left l.invariant (omega arith) t
 
 mul_low : tie.Need-overflow-mul-low invariant-loop decreases-loop
-mul_low c = omega (arith, at-climb c)
+mul_low c = omega (arith, at_climb c)
 
 add_low : tie.Need-overflow-add-low invariant-loop decreases-loop
-add_low c = omega (arith, at-climb c)
+add_low c = omega (arith, at_climb c)
 
 mul-place : tie.Need-overflow-mul-place invariant-loop decreases-loop
-mul-place c = omega (arith, at-climb c)
+mul-place c = omega (arith, at_climb c)
 
 sub-left : tie.Need-overflow-sub-left invariant-loop decreases-loop
 sub-left c = omega arith
@@ -84,7 +84,7 @@ loop-less : tie.Need-loop-smaller invariant-loop decreases-loop
 loop-less c = omega arith
 
 loop-again : tie.Need-loop-preserved invariant-loop decreases-loop
-loop-again c = (at-climb c).kept
+loop-again c = (at_climb c).kept
 
 returns-2 : tie.Need-returns-2 invariant-loop decreases-loop
 returns-2 c =

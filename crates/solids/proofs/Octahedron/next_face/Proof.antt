@@ -3,8 +3,8 @@
 use mathlib.Core.Path.{◌∙◌}
 use native.Mathlib.Omega.{arith}
 use borrow.Author.Rules.{rules}
-use Rattle.solids.specs.Solids.{octahedron, nextRow}
-use Rattle.solids.proofs.Rows.{next-read}
+use Rattle.solids.specs.Solids.{octahedron, next_row}
+use Rattle.solids.proofs.Rows.{next_read}
 use Rattle.solids.proofs.Octahedron.next_face.Statement.{statement}
 use Rattle.solids.proofs.Octahedron.next_face.Tie as tie
 
@@ -21,10 +21,10 @@ wide-requires : tie.Need-wide-requires
 wide-requires c κs = search rules
 
 returns : tie.Need-returns
-unfolding nextRow
+unfolding next_row
 returns c =
     let a = c.before.before.args in
-    c.wide.ensures ∙ next-read octahedron a.side a.face (omega arith)
+    c.wide.ensures ∙ next_read octahedron a.side a.face (omega arith)
 
 pub next-face-spec : {M : Type 1} → statement M
 next-face-spec = tie.close (tie.spec mul_wide index-1-wide index-2-wide wide-requires returns)

@@ -3,8 +3,8 @@
 use mathlib.Core.Path.{◌∙◌}
 use native.Mathlib.Omega.{arith}
 use borrow.Author.Rules.{rules}
-use Rattle.solids.specs.Solids.{tetrahedron, faceList}
-use Rattle.solids.proofs.Rows.{vertex-read}
+use Rattle.solids.specs.Solids.{tetrahedron, face_list}
+use Rattle.solids.proofs.Rows.{vertex_read}
 use Rattle.solids.proofs.Tetrahedron.vertex.Statement.{statement}
 use Rattle.solids.proofs.Tetrahedron.vertex.Tie as tie
 
@@ -21,10 +21,10 @@ wide-requires : tie.Need-wide-requires
 wide-requires c κs = search rules
 
 returns : tie.Need-returns
-unfolding faceList
+unfolding face_list
 returns c =
     let a = c.before.before.args in
-    c.wide.ensures ∙ vertex-read tetrahedron a.face a.corner (omega arith) (omega arith)
+    c.wide.ensures ∙ vertex_read tetrahedron a.face a.corner (omega arith) (omega arith)
 
 pub vertex-spec : {M : Type 1} → statement M
 vertex-spec = tie.close (tie.spec mul_wide index-1-wide index-2-wide wide-requires returns)
