@@ -2,6 +2,8 @@
 // across a side, and which seams are mirrored. Numbers are those of document 01: solid 1, 2, 3; side 0 left, 1 right,
 // 2 vertical; corner 0 tip, 1 left, 2 right; faces and vertices from 0. Inner functions: callers have checked the numbers.
 
+#![tactic(auto)]
+
 ghost use Rattle.std.specs.Prelude.{◌≡◌, ℕ, ◌<◌};
 ghost use Rattle.solids.specs.Triangles.{Side, side_of, corner_of};
 ghost use Rattle.solids.specs.Solids.{Solid, Known, solid_of, tetrahedron, octahedron, icosahedron, faces, vertices, vertex, next_face, mirrored};

@@ -1,6 +1,8 @@
 // Text in ASCII: digits read from a slice of bytes, and text put into one from a place on. Inner functions: callers have
 // seen to it that there is room.
 
+#![tactic(auto)]
+
 ghost use Rattle.std.specs.Prelude.{◌≡◌, ◌+◌, ◌<◌, ◌≤◌, length, take, drop};
 ghost use Rattle.text.specs.Text.{Put, Digit, Reads};
 ghost use Rattle.text.specs.Text.{glyph, digits};
