@@ -1,6 +1,8 @@
 // The corner rule as mathematics: cells, paths, corners as lists of weights, and the step by digits. No code; each function
 // here has an empty body and stands for the theorem that it ensures, so that the gate asks for it by name.
 
+#![tactic(auto)]
+
 ghost use Rattle.std.specs.Prelude.{◌≡◌, ◌^◌};
 ghost use Rattle.solids.specs.Triangles.{Corner, Side, back};
 ghost use Rattle.geometry.specs.Weights.{total};
