@@ -3,12 +3,14 @@
 
 usage: python3 tools/answers.py NAMES CRATE..          at the top of the repository
        python3 tools/answers.py NAMES --open SAID CRATE..
+       python3 tools/answers.py NAMES --run CRATE..
 
 NAMES is the folder that `rt names NAMES`, run at the top, has written. The first form takes each proofs/F/Proof.antt away, writes
 proofs/F/Invariants.antt where there are loops, and keeps the converted answers below NAMES/answers/CRATE/F: none is in the crate yet,
 so that a check says which goals the search leaves. It also adds #![tactic(auto)] to lib.rt or main.rt.
 The second form reads SAID, what `rt check` said, and writes proofs/F/Answers.antt with the answers to the goals that are open there.
-'all' for SAID writes each answer. 'left:' names what is to be done by hand.
+'all' for SAID writes each answer. The third checks and writes answers in turn, until no kept answer
+is of use, and prints what is left; what the last check said is in NAMES/said/CRATE.txt. 'left:' names what is to be done by hand.
 """
 
 import json
@@ -206,8 +208,37 @@ class Body:
         return re.sub(rf"(?<=\.)({TOKEN})", lambda m: self.source.get(m.group(1), m.group(1)), text)
 
 
+def labels(crate, function):
+    """The names of the function's own ensures clauses, where it has several."""
+    for folder, _, files in os.walk(os.path.join("crates", crate, "src")):
+        for f in sorted(files):
+            if f.endswith(".rt"):
+                m = re.search(rf"(?m)^ *(?:pub )?fn {function}\b.*?^ *\{{", read(os.path.join(folder, f)), re.S)
+                if m:
+                    return re.findall(r"(?m)^ *ensures (\w+) \{", m.group(0))
+    return []
+
+
+def parts(body):
+    """The parts of a tuple that is the whole body, or None."""
+    it = body.strip()
+    if not (it.startswith("(") and it.endswith(")")):
+        return None
+    depth, found, at = 0, [], 1
+    for i, c in enumerate(it):
+        depth += {"(": 1, "{": 1, "[": 1, ")": -1, "}": -1, "]": -1}.get(c, 0)
+        if depth == 0 and i < len(it) - 1:
+            return None
+        if c == "," and depth == 1:
+            found.append(it[at:i].strip())
+            at = i + 1
+    last = it[at:-1].strip()
+    return found + ([last] if last else [])
+
+
 def convert(crate, function, proof, of, source):
     names = Names(of)
+    said = labels(crate, function[-1].lstrip("+"))
     text = read(proof)
     head, each = blocks(text)
     mod = ".".join(function)
@@ -269,6 +300,16 @@ def convert(crate, function, proof, of, source):
             out = Body(names, place, var, proof, source, lemmas, goal).turned(body)
             if var != "c":
                 out = re.sub(rf"(?<![\w'.-]){re.escape(var)}(?=\.)", "c", out)
+            if len(said) > 1 and goal.startswith("returns"):
+                head_of, lets = out, ""
+                k = re.match(r"(?s)(\s*(?:let .*? in\s+)*)(\(.*)", out)
+                each_part = parts(k.group(2)) if k else None
+                while each_part and len(each_part) < len(said) and parts(each_part[-1]):
+                    each_part = each_part[:-1] + parts(each_part[-1])
+                if each_part and len(each_part) == len(said):
+                    out = k.group(1).rstrip() + " record {\n" + "".join(f"  {l} = {p};\n" for l, p in zip(said, each_part)) + "}"
+                else:
+                    left(proof, f"look: {goal} has clauses {', '.join(said)}")
             extra = v.group(1)
             answers.append((goal, f"{m.group(1)}pub {goal} : goal.{goal}\n{unfolding}{goal} {extra}c ={out}"))
             continue
@@ -346,9 +387,41 @@ def open_goals(said, crate):
     return found
 
 
+def check(where, crate):
+    r = subprocess.run(["rt", "check", "--allow-holes"], cwd=os.path.join("crates", crate), stdout=subprocess.PIPE, stderr=subprocess.STDOUT, text=True, errors="replace")
+    path = os.path.join(where, "said", crate + ".txt")
+    write(path, r.stdout)
+    return path
+
+
+def run(where, crate):
+    for turn in range(8):
+        path = check(where, crate)
+        before = status(crate)
+        r = subprocess.run([sys.executable, __file__, where, "--open", path, crate], stdout=subprocess.PIPE, text=True)
+        print(f"{crate}, round {turn + 1}:\n{r.stdout}", end="", flush=True)
+        if status(crate) == before:
+            break
+    text = read(path)
+    for l in text.splitlines():
+        if re.match(r"fn " + crate + r"::\S+: (?!no holes|proved)", l) or (": error" in l) or " must prove" in l or "may be false: " in l:
+            print("  " + l[:600])
+    print(f"{crate}: {'no goal is open' if re.search('(?m)^holes=0', text) and not re.search('not proved|error', text) else 'see ' + path}")
+
+
+def status(crate):
+    top = os.path.join("crates", crate, "proofs")
+    return {p: read(p) for f, _, fs in os.walk(top) for p in (os.path.join(f, x) for x in fs) if p.endswith(".antt")}
+
+
 def main():
     args = sys.argv[1:]
     said = None
+    if "--run" in args:
+        args.remove("--run")
+        for crate in args[1:]:
+            run(args[0], crate)
+        return
     if "--open" in args:
         at = args.index("--open")
         said = args[at + 1]

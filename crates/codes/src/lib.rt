@@ -1,5 +1,7 @@
 // Codes of triangles: 2 bits solid, 5 bits face, 52 bits path, 5 bits depth.
 
+#![tactic(auto)]
+
 ghost use Rattle.std.specs.Prelude.{◌≡◌, ℕ, ◌+◌, ◌-◌, ◌*◌, ◌^◌, ◌≤◌, ◌<◌};
 ghost use Rattle.solids.specs.Triangles.{Corner};
 ghost use Rattle.refusals.specs.Refusals.{Single};
@@ -160,19 +162,19 @@ pub fn child(code: u64, digit: u64) -> Answer
 // Well-formed codes and well-formed cells of depth at most 26 are one and the same.
 pub fn codes_and_cells_are_one_and_the_same()
     ensures code { (c : Cell) → WellFormed c → depth_of c ≤ 26 → Code (code_of c) }
-    ensures c_value { (c : Cell) → WellFormed c → depth_of c ≤ 26 → cell_of (code_of c) ≡ c }
-    ensures by_index { (x : ℕ) → Code x → WellFormed (cell_of x) }
-    ensures by_index_2 { (x : ℕ) → depth_of (cell_of x) ≡ depth x }
-    ensures by_index_3 { (x : ℕ) → Code x → code_of (cell_of x) ≡ x }
+    ensures cell_again { (c : Cell) → WellFormed c → depth_of c ≤ 26 → cell_of (code_of c) ≡ c }
+    ensures cell { (x : ℕ) → Code x → WellFormed (cell_of x) }
+    ensures same_depth { (x : ℕ) → depth_of (cell_of x) ≡ depth x }
+    ensures code_again { (x : ℕ) → Code x → code_of (cell_of x) ≡ x }
 {}
 
 // For any input each call has one answer.
 pub fn each_call_on_codes_has_one_answer()
-    ensures by_index { (x : ℕ) → Single (Checked x) }
-    ensures single { (s f p d : ℕ) → Single (Packed s f p d) }
-    ensures by_index_2 { (x : ℕ) → Single (Unpacked x) }
-    ensures by_index_3 { (x : ℕ) → Single (ParentOf x) }
-    ensures by_index_4 { (x q : ℕ) → Single (ChildOf x q) }
+    ensures checked { (x : ℕ) → Single (Checked x) }
+    ensures packed { (s f p d : ℕ) → Single (Packed s f p d) }
+    ensures unpacked { (x : ℕ) → Single (Unpacked x) }
+    ensures parent { (x : ℕ) → Single (ParentOf x) }
+    ensures child { (x q : ℕ) → Single (ChildOf x q) }
 {}
 
 // What packs into a code unpacks from it, and what unpacks from a code packs into it.
@@ -183,8 +185,8 @@ pub fn packing_and_unpacking_undo_each_other()
 
 // The parent of a child is the cell, and a cell is a child of its parent.
 pub fn parent_and_child_undo_each_other()
-    ensures by_index { (x q y : ℕ) → ChildOf x q (done y) → ParentOf y (done x) }
-    ensures by_index_2 { (x y : ℕ) → ParentOf x (done y) → SomeChild y x }
+    ensures parent_of_child { (x q y : ℕ) → ChildOf x q (done y) → ParentOf y (done x) }
+    ensures child_of_parent { (x y : ℕ) → ParentOf x (done y) → SomeChild y x }
 {}
 
 // The corners of every child are those of the table.
@@ -199,14 +201,14 @@ pub fn an_ancestor_comes_before_its_descendants()
 
 // Read by its place, a well-formed code is the same code, and its children and its parent are those of its cell.
 pub fn places_tell_codes_children_and_parents()
-    ensures by_index { (x : ℕ) → Code x → CodeOn (solid x) x }
-    ensures by_index_2 { (S x : ℕ) → CodeOn S x → Code x × (solid x ≡ S) }
-    ensures by_index_3 { (x : ℕ) (q : Digit) → Code x → depth x < 26 → code_of (child (cell_of x) q) ≡ child_code x (digit_no q) }
-    ensures by_index_4 { (x : ℕ) → Code x → 0 < depth x → code_of (parent (cell_of x)) ≡ parent_code x }
+    ensures on_its_solid { (x : ℕ) → Code x → CodeOn (solid x) x }
+    ensures on_no_other { (S x : ℕ) → CodeOn S x → Code x × (solid x ≡ S) }
+    ensures child { (x : ℕ) (q : Digit) → Code x → depth x < 26 → code_of (child (cell_of x) q) ≡ child_code x (digit_no q) }
+    ensures parent { (x : ℕ) → Code x → 0 < depth x → code_of (parent (cell_of x)) ≡ parent_code x }
 {}
 
 // The cells of depth 26 inside a cell are those at the places of its interval.
 pub fn a_cell_is_an_interval_of_places()
-    ensures by_index { (x g : ℕ) → Code x → place x ≤ g → g < past x → Within x (code_at g 26) }
-    ensures by_index_2 { (x g : ℕ) → Code x → Code (code_at g 26) → Within x (code_at g 26) → (place x ≤ g) × (g < past x) }
+    ensures within { (x g : ℕ) → Code x → place x ≤ g → g < past x → Within x (code_at g 26) }
+    ensures nowhere_else { (x g : ℕ) → Code x → Code (code_at g 26) → Within x (code_at g 26) → (place x ≤ g) × (g < past x) }
 {}

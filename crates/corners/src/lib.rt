@@ -15,7 +15,7 @@ ghost use Rattle.corners.specs.Arrays.{at, AreCorners, HasCorner, HasSide};
 ghost use Rattle.corners.specs.declared.Corners.{Corners};
 
 // The tip, the left and the right corner.
-#[derive(Drop)]
+#[derive(Clone, Copy)]
 pub struct Corners {
     pub tip: [u64; 12],
     pub left: [u64; 12],

@@ -282,19 +282,19 @@ pub fn count(slots: &[u64], cell: u64) -> Counted
 
 // For any slots and numbers each call has one answer, the slots after it included.
 pub fn each_call_on_a_mesh_has_one_answer()
-    ensures by_index { (xs : List ℕ) → Single (λ (b : Bool). Tells b (SoundIn (whole_of xs) xs)) }
-    ensures by_index_2 { (S Q : ℕ) (xs : List ℕ) → Single (Freshened S Q xs) }
-    ensures by_index_3 { (Q : ℕ) (xs : List ℕ) (c : ℕ) → Single (Refined Q xs c) }
-    ensures by_index_4 { (Q : ℕ) (xs : List ℕ) (c : ℕ) → Single (Coarsened Q xs c) }
-    ensures by_index_5 { (Q : ℕ) (xs : List ℕ) (c s : ℕ) → Single (AcrossOf Q xs c s) }
-    ensures by_index_6 { (Q : ℕ) (xs : List ℕ) (c : ℕ) → Single (BoundsOf Q xs c) }
-    ensures by_index_7 { (Q : ℕ) (xs : List ℕ) (c : ℕ) → Single (RunOf Q xs c) }
-    ensures by_index_8 { (Q : ℕ) (xs : List ℕ) (c : ℕ) → Single (CountOf Q xs c) }
+    ensures sound { (xs : List ℕ) → Single (λ (b : Bool). Tells b (SoundIn (whole_of xs) xs)) }
+    ensures fresh { (S Q : ℕ) (xs : List ℕ) → Single (Freshened S Q xs) }
+    ensures refine { (Q : ℕ) (xs : List ℕ) (c : ℕ) → Single (Refined Q xs c) }
+    ensures coarsen { (Q : ℕ) (xs : List ℕ) (c : ℕ) → Single (Coarsened Q xs c) }
+    ensures across { (Q : ℕ) (xs : List ℕ) (c s : ℕ) → Single (AcrossOf Q xs c s) }
+    ensures bounds { (Q : ℕ) (xs : List ℕ) (c : ℕ) → Single (BoundsOf Q xs c) }
+    ensures run { (Q : ℕ) (xs : List ℕ) (c : ℕ) → Single (RunOf Q xs c) }
+    ensures count { (Q : ℕ) (xs : List ℕ) (c : ℕ) → Single (CountOf Q xs c) }
 {}
 
 // Any series of calls, refused ones included, leaves a sound mesh of the solid and the faces it was made for; and on the whole
 // solid each side of each leaf then meets one leaf, equal or larger, or exactly two smaller.
 pub fn any_series_of_calls_leaves_a_sound_mesh()
-    ensures by_index { (S Q : ℕ) (xs : List ℕ) → Reach S Q xs → Sound S Q xs }
-    ensures by_index_2 { (S : ℕ) (xs : List ℕ) → Reach S (all_faces S) xs → (a s : ℕ) → Leaf (leaves xs) a → s < 3 → OneOrTwo (leaves xs) a s }
+    ensures sound { (S Q : ℕ) (xs : List ℕ) → Reach S Q xs → Sound S Q xs }
+    ensures one_or_two { (S : ℕ) (xs : List ℕ) → Reach S (all_faces S) xs → (a s : ℕ) → Leaf (leaves xs) a → s < 3 → OneOrTwo (leaves xs) a s }
 {}

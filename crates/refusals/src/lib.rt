@@ -1,5 +1,7 @@
 // Refusals by their numbers, and the answer of a call that gives a code.
 
+#![tactic(auto)]
+
 pub const SOLID: u64 = 1;
 
 pub const FACE: u64 = 2;

@@ -41,24 +41,24 @@ pub fn a_fresh_mesh_is_sound()
 // Refining a leaf of depth below 26 keeps a mesh sound, where there is room for three more leaves and no side of the leaf
 // meets a larger one. Where one does, leaves that share a stretch of a side would be two levels apart.
 pub fn refining_keeps_a_mesh_sound()
-    ensures by_index { (S Q a : ℕ) (xs : List ℕ) → Sound S Q xs → Leaf (leaves xs) a → depth a < 26 →
+    ensures sound { (S Q a : ℕ) (xs : List ℕ) → Sound S Q xs → Leaf (leaves xs) a → depth a < 26 →
         (Some (BlocksRefine (leaves xs) a) → ⊥) → length (leaves xs) + 3 ≤ length xs → Sound S Q (pad (length xs) (refined a (leaves xs))) }
-    ensures by_index_2 { (a : ℕ) (L : List ℕ) → Leaf L a → depth a < 26 → Some (BlocksRefine L a) → Level (refined a L) → ⊥ }
+    ensures blocked { (a : ℕ) (L : List ℕ) → Leaf L a → depth a < 26 → Some (BlocksRefine L a) → Level (refined a L) → ⊥ }
 {}
 
 // Coarsening a cell whose four children are leaves keeps a mesh sound, where no side of a child meets two smaller leaves. Where
 // one does, leaves that share a stretch of a side would be two levels apart.
 pub fn coarsening_keeps_a_mesh_sound()
-    ensures by_index { (S Q c : ℕ) (xs : List ℕ) → Sound S Q xs → CodeOn S c → depth c < 26 →
+    ensures sound { (S Q c : ℕ) (xs : List ℕ) → Sound S Q xs → CodeOn S c → depth c < 26 →
         ((q : ℕ) → q < 4 → Leaf (leaves xs) (child_code c q)) → (Some (BlocksCoarsen (leaves xs) c) → ⊥) →
         Sound S Q (pad (length xs) (coarsened c (leaves xs))) }
-    ensures by_index_2 { (S Q c : ℕ) (L : List ℕ) → Mesh S Q L → CodeOn S c → depth c < 26 →
+    ensures blocked { (S Q c : ℕ) (L : List ℕ) → Mesh S Q L → CodeOn S c → depth c < 26 →
         ((q : ℕ) → q < 4 → Leaf L (child_code c q)) → Some (BlocksCoarsen L c) → Level (coarsened c L) → ⊥ }
 {}
 
 // On a mesh of the whole solid each side of each leaf meets one leaf, equal or larger, or exactly two smaller; and what a side
 // meets has one answer.
 pub fn each_side_meets_one_leaf_or_two_smaller()
-    ensures by_index { (S : ℕ) (L : List ℕ) → Mesh S (all_faces S) L → (a s : ℕ) → Leaf L a → s < 3 → OneOrTwo L a s }
-    ensures by_index_2 { (L : List ℕ) (a s : ℕ) (m n : met.Met) → MetIs L a s m → MetIs L a s n → m ≡ n }
+    ensures one_or_two { (S : ℕ) (L : List ℕ) → Mesh S (all_faces S) L → (a s : ℕ) → Leaf L a → s < 3 → OneOrTwo L a s }
+    ensures one_answer { (L : List ℕ) (a s : ℕ) (m n : met.Met) → MetIs L a s m → MetIs L a s n → m ≡ n }
 {}

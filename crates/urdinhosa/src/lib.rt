@@ -226,12 +226,12 @@ pub extern "C" fn urdinhosa_run(
 
 // For any input each export has one answer.
 pub fn each_export_has_one_answer()
-    ensures single { (s f p d : ℕ) → Single (Gives (Packed s f p d)) }
-    ensures by_index { (x : ℕ) → Single (Gives (ParentOf x)) }
-    ensures by_index_2 { (x q : ℕ) → Single (Gives (ChildOf x q)) }
-    ensures single_2 { (s f t l r d : ℕ) → Single (Gives (Located s f t l r d)) }
-    ensures by_index_3 { (x s : ℕ) → Single (Gives (Stepped x s)) }
-    ensures by_index_4 { (x m n : ℕ) (a b : List ℕ) → Writes x m a → Writes x n b → (m ≡ n) × (a ≡ b) }
+    ensures packed { (s f p d : ℕ) → Single (Gives (Packed s f p d)) }
+    ensures parent { (x : ℕ) → Single (Gives (ParentOf x)) }
+    ensures child { (x q : ℕ) → Single (Gives (ChildOf x q)) }
+    ensures located { (s f t l r d : ℕ) → Single (Gives (Located s f t l r d)) }
+    ensures stepped { (x s : ℕ) → Single (Gives (Stepped x s)) }
+    ensures written { (x m n : ℕ) (a b : List ℕ) → Writes x m a → Writes x n b → (m ≡ n) × (a ≡ b) }
 {}
 
 // A code is never taken for a refusal's number.
