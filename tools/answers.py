@@ -20,7 +20,7 @@ import subprocess
 import sys
 
 TOKEN = r"[^\s(){}.;,@\"«»\[\]]+"
-AT_START = set("args requires ranges utf8 lifetimes type_inv type-inv well-formed auto before captures".split())
+AT_START = set("args requires ranges utf8 lifetimes type_inv type-inv well-formed well_formed auto before captures".split())
 TRIVIAL = re.compile(r"(search (rules|\(rules\))|omega arith|search \(rules, arith\))$")
 OPS = [
     ("overflow-add", "add"), ("overflow-sub", "sub"), ("overflow-mul", "mul"), ("overflow-shl", "shl"), ("overflow-shr", "shr"),
@@ -48,15 +48,35 @@ def left(path, what):
     print(f"left: {path}: {what}")
 
 
+def lent_to(callee):
+    """The names of the `&mut` parameters of a function of the repository."""
+    if not callee:
+        return []
+    path = callee.split("::")
+    for folder, _, files in os.walk(os.path.join("crates", path[0], "src")):
+        for f in sorted(files):
+            m = re.search(rf"\bfn {path[-1]}\b[^(]*\(([^)]*)\)", read(os.path.join(folder, f)))
+            if m:
+                return re.findall(r"(\w+): &mut", m.group(1))
+    return []
+
+
 class Names:
     def __init__(self, of):
         self.of = of
         self.needs = [(plain(a), b) for a, b in of["needs"]]
         self.parent = {p[0]: p[1] for p in of["places"]}
         self.step = {p[0]: (plain(p[2][0]), p[2][1]) for p in of["places"]}
+        self.callee = {p[0]: p[3] for p in of["places"]}
         self.raw = {p[0]: dict(p[4]) for p in of["places"] if len(p) > 4 and p[4]}
         self.new_place = dict(zip([p[0] for p in of["places"]], of["places_by_name"]))
         self.at = [a for a, _ in of["asked_at"]]
+        self.args = {}
+        for a, b in of["args"]:
+            a, b = a.split("."), b.split(".")
+            if a[-1] != b[-1] and len(a) == 3:
+                self.args[a[-1]] = b[-1]
+        self.clauses = {p[0]: c["fields"] for p, c in zip(of["places"], of["clauses"]) if isinstance(c, dict) and c.get("fields")}
         self.arms = {}
         for p, arm in zip(of["places"], of["arms"]):
             for new, step, fields in (arm[2] if arm else []):
@@ -94,7 +114,7 @@ class Names:
     def field(self, place, fields):
         """The new path of an old path below a place, with no 'before' at its head."""
         if fields[0] == "fits":
-            return ["ranges"] + [it for it in fields[1:2]] + [it for it in fields[2:] if it != "fits"]
+            return ["ranges"] + fields[1:]
         if fields[0] == "pre":
             return ["requires"] + fields[1:]
         first = {"type-size": "size-of"}.get(plain(fields[0]), plain(fields[0]))
@@ -107,11 +127,29 @@ class Names:
         for p in self.chain(place):
             step, new = self.step[p]
             if step == first and step:
-                rest = fields[1:]
-                if rest and rest[0] in self.raw.get(p, {}):
-                    rest = [self.raw[p][rest[0]]] + rest[1:]
-                return [new] + rest
+                return [new] + self.below(p, fields[1:])
         return None
+
+    def below(self, p, rest):
+        """The new path of an old path below the step of a place."""
+        step = self.step[p][0]
+        if re.match(r"(wrapping|overflowing|saturating)-", step) and rest == ["ensures"]:
+            rest = ["ensures", "value"]
+        if rest[:1] in (["new"], ["last"]) and rest[1:2] and rest[1].isdigit():
+            lent = lent_to(self.callee.get(p))
+            if int(rest[1]) < len(lent):
+                rest = ["new", lent[int(rest[1])]] + rest[2:]
+        names = self.clauses.get(p, [])
+        if len(names) > 1 and rest[:1] == ["ensures"] and rest[1:2] and rest[1] in ("0", "1"):
+            k, at = 0, 1
+            while at < len(rest) and rest[at] == "1" and k < len(names) - 1:
+                k, at = k + 1, at + 1
+            if k < len(names) - 1 and rest[at:at + 1] == ["0"]:
+                at += 1
+            rest = ["ensures", names[k]] + rest[at:]
+        if rest and rest[0] in self.raw.get(p, {}):
+            rest = [self.raw[p][rest[0]]] + rest[1:]
+        return rest
 
 
 def blocks(text):
@@ -150,7 +188,7 @@ def sources(crate):
     for folder, _, files in os.walk(os.path.join("crates", crate, "src")):
         for f in files:
             if f.endswith(".rt"):
-                for it in re.findall(r"\w+_\w+", read(os.path.join(folder, f))):
+                for it in re.findall(r"\w+_\w+", re.sub(r"ghost use [^;]*;", "", read(os.path.join(folder, f)))):
                     found[it.replace("_", "-")] = it
     return found
 
@@ -164,7 +202,8 @@ class Body:
         self.var = var
 
     def spelled(self, fields):
-        return [self.source.get(it, it) for it in fields]
+        fields = [{"type-inv": "type_inv", "well-formed": "well_formed"}.get(it, it) for it in fields]
+        return fields[:1] + [self.source.get(it, self.names.args.get(it, it)) for it in fields[1:]]
 
     def path_of(self, m):
         var, fields = m.group(1), [it for it in m.group(2).split(".") if it]
@@ -183,15 +222,18 @@ class Body:
 
     def turned(self, text):
         # A 'let' that names a place goes: its fields are those of the one variable.
-        for m in re.finditer(rf"let ({TOKEN}) = {self.var}((?:\.before)+) in\s*", text):
-            if re.search(rf"λ[^.]*(?<![\w'.-]){re.escape(m.group(1))}(?![\w'.-])[^.]*\.|let {re.escape(m.group(1))} ", text.replace(m.group(0), "", 1)):
-                left(self.path, f"look: `{m.group(1)}` names a place and may be bound again")
+        while True:
+            m = re.search(rf"let ({TOKEN}) = {self.var}((?:\.before)*) in\s*", text)
+            if not m:
+                break
             text = text.replace(m.group(0), "", 1)
+            if re.search(rf"λ[^.]*(?<![\w'.-]){re.escape(m.group(1))}(?![\w'.-])[^.]*\.|let {re.escape(m.group(1))} ", text):
+                left(self.path, f"look: `{m.group(1)}` names a place and may be bound again")
             text = re.sub(rf"(?<![\w'.-]){re.escape(m.group(1))}(?![\w'-])", self.var + m.group(2), text)
         # A lemma over a place.
         for lemma, place in self.lemmas.items():
             new = self.names.new_place[place]
-            give = f"(goal.at.{self.goal} {self.var}).{new}" if self.goal else self.var
+            give = f"(goal.at.{self.goal} {self.var}).{new}" if self.goal else f"(goal.at-{self.names.new_place[self.place]} {self.var}).{new}" if place != self.place else self.var
             text = re.sub(rf"(?<![\w'.-]){re.escape(lemma)} {self.var}((?:\.before)*)(?![\w'.-])", lambda m: f"{lemma} @@{give}@@", text)
         parts = re.split(r"@@(.*?)@@", text)
         for i in range(0, len(parts), 2):
@@ -204,8 +246,32 @@ class Body:
             it = re.sub(rf"\(not-false _ ({self.var}\.{TOKEN})\.false-raw\)", r"\1.false", it)
             parts[i] = it
         text = "".join(parts)
+        # A 'let' that names a step: its fields are those of the step.
+        at = 0
+        while True:
+            m = re.compile(rf"let ({TOKEN}) = {self.var}\.({TOKEN}) in\s").search(text, at)
+            if not m:
+                break
+            at = m.end()
+            p = next((p for p in self.names.chain(self.place) if self.names.step[p][1] == m.group(2)), None)
+            if p:
+                end = text.find(f"let {m.group(1)} = ", at)
+                end = len(text) if end < 0 else end
+                it = re.sub(
+                    rf"(?<![\w'.-]){re.escape(m.group(1))}((?:\.{TOKEN})+)",
+                    lambda k: ".".join([m.group(1)] + self.names.below(p, k.group(1).split(".")[1:])),
+                    text[at:end],
+                )
+                text = text[:at] + it + text[end:]
+
         # Fields of the source below a 'let' of a step.
-        return re.sub(rf"(?<=\.)({TOKEN})", lambda m: self.source.get(m.group(1), m.group(1)), text)
+        def below(m):
+            if m.group(1) == self.var or m.group(1) in ("goal", "tie"):
+                return m.group(0)
+            fields = m.group(2).split(".")[1:]
+            return ".".join([m.group(1)] + [self.source.get(it, self.names.args.get(it, {"type-inv": "type_inv", "well-formed": "well_formed"}.get(it, it))) for it in fields])
+
+        return re.sub(rf"(?<![\w'.-])({TOKEN})((?:\.{TOKEN})+)", below, text)
 
 
 def labels(crate, function):
@@ -265,13 +331,11 @@ def convert(crate, function, proof, of, source):
             n = re.match(rf"(unfolding [^\n]*\n)?{re.escape(m.group(2))} (.*?) =(?=\s)", clause, re.S)
             params = n.group(2).split()
             body = clause[n.end():]
-            for p in params:
-                if p == "_":
-                    continue
-                to = f"l.initial.{p[:-1]}" if p.endswith("₀") else f"l.{p}"
-                if re.search(rf"[λ(] ?{re.escape(p)}(?= |\.|:)", body) and not re.search(rf"\({re.escape(p)} [≤<≡+*∷]", body):
+            to = {p: f"l.initial.{p[:-1]}" if p.endswith("₀") else f"l.{p}" for p in params if p != "_"}
+            for p in to:
+                if re.search(rf"(λ|\() ?{re.escape(p)}( :|\.)|λ ([^.=()]* )?{re.escape(p)}[. ]", body):
                     left(proof, f"look: {p} may be bound again in {name}")
-                body = re.sub(rf"(?<![\w'.₀-]){re.escape(p)}(?![\w'₀-])", to.replace("\\", ""), body)
+            body = re.sub(rf"(?<![\w'.₀-])({'|'.join(re.escape(p) for p in sorted(to, key=len, reverse=True))})(?![\w'₀-])", lambda k: to[k.group(1)], body)
             invariants.append(f"{m.group(1)}abbrev pub {name} : goal.{name}\n{n.group(1) or ''}{name} l ={body}")
             continue
         m = re.match(rf"((?:--[^\n]*\n)*)({TOKEN}) : tie\.Need-(\S+)[^\n]*\n", b)
@@ -446,7 +510,6 @@ def main():
                 mod = ".".join(function)
                 folder = os.path.dirname(proof)
                 write(os.path.join(stash, *function, "Proof.antt"), read(proof))
-                subprocess.run(["git", "rm", "-q", "--cached", proof], check=False)
                 os.remove(proof)
                 if invariants:
                     body = "\n\n".join(invariants) + "\n"
