@@ -16,7 +16,7 @@ ghost use Rattle.codes.specs.Calls.{Checked, Packed, unpacked, Unpacked, fields,
 use refusals::Answer;
 
 // The fields of a code (solid, face, path, depth), or the number of the refusal.
-#[derive(Drop)]
+#[derive(Clone, Copy)]
 pub enum Fields {
     Of(u64, u64, u64, u64),
     Refused(u64),

@@ -33,7 +33,7 @@ pub const BLOCKED: u64 = 14;
 pub const ROOM: u64 = 15;
 
 // The code that was asked for, or the number of the refusal.
-#[derive(Drop)]
+#[derive(Clone, Copy)]
 pub enum Answer {
     Code(u64),
     Refused(u64),

@@ -9,7 +9,7 @@ ghost use Rattle.solids.specs.Triangles.{Side, side_of, corner_of};
 ghost use Rattle.solids.specs.Solids.{Solid, Known, solid_of, tetrahedron, octahedron, icosahedron, faces, vertices, vertex, next_face, mirrored};
 ghost use Rattle.solids.specs.Seams.{Seam};
 
-#[derive(Drop)]
+#[derive(Clone, Copy)]
 pub struct Tetrahedron;
 
 impl Tetrahedron {
@@ -38,7 +38,7 @@ impl Tetrahedron {
     }
 }
 
-#[derive(Drop)]
+#[derive(Clone, Copy)]
 pub struct Octahedron;
 
 impl Octahedron {
@@ -73,7 +73,7 @@ impl Octahedron {
     }
 }
 
-#[derive(Drop)]
+#[derive(Clone, Copy)]
 pub struct Icosahedron;
 
 impl Icosahedron {

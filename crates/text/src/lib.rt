@@ -4,11 +4,10 @@
 #![tactic(auto)]
 
 ghost use Rattle.std.specs.Prelude.{◌≡◌, ◌+◌, ◌<◌, ◌≤◌, length, take, drop};
-ghost use Rattle.text.specs.Text.{Put, Digit, Reads};
-ghost use Rattle.text.specs.Text.{glyph, digits};
+ghost use Rattle.text.specs.Text.{Put, Digit, Reads, glyph, digits};
 
 // A number that stands in a text, or another form.
-#[derive(Drop)]
+#[derive(Clone, Copy)]
 pub enum Reading {
     Number(u64),
     Other,
