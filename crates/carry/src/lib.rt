@@ -2,6 +2,8 @@
 // branch. A path stands left-aligned in a word: its first digit in the top two bits, zeros after its last digit. Side 0 is
 // left, 1 right, 2 vertical. Inner functions: callers have checked the numbers.
 
+#![tactic(auto)]
+
 ghost use Rattle.std.specs.Prelude.{◌≡◌, ◌-◌, ◌%◌, ◌^◌, ◌<◌, ◌≤◌};
 ghost use Rattle.solids.specs.Triangles.{side_of};
 ghost use Rattle.carry.specs.Carries.{Carries, Mirrors};
@@ -14,7 +16,7 @@ const ODD: u64 = 0xaaaa_aaaa_aaaa_aaaa;
 
 // Where the walk leads: the path with its replacements, and whether the carry was lost, that is, whether the walk passed
 // the first digit.
-#[derive(Drop)]
+#[derive(Clone, Copy)]
 pub struct Carried {
     pub path: u64,
     pub lost: bool,

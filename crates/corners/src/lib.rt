@@ -1,6 +1,8 @@
 // The corners of a cell as arrays of twelve weights, one for each vertex that a solid can have, by value, and the corner
 // rule run on them. Inner functions: callers have checked the code and the side.
 
+#![tactic(auto)]
+
 ghost use Rattle.std.specs.Prelude.{◌≡◌, ◌+◌, ◌^◌, ◌≤◌, ◌<◌};
 ghost use Rattle.solids.specs.Triangles.{Corner, Side, side_of};
 ghost use Rattle.solids.specs.Solids.{Known, solid_of, faces};

@@ -1,5 +1,7 @@
 // Locating a point of a face at a depth.
 
+#![tactic(auto)]
+
 ghost use Rattle.std.specs.Prelude.{◌≡◌, ℕ, ◌+◌, ◌^◌, ◌≤◌};
 ghost use Rattle.solids.specs.Solids.{solid_of};
 ghost use Rattle.refusals.specs.Refusals.{Single};
@@ -14,7 +16,7 @@ use refusals::Answer;
 const WHOLE: u64 = 0x400_0000;
 
 // The digit that is chosen one level down, and the point's weights in that child.
-#[derive(Drop)]
+#[derive(Clone, Copy)]
 struct Lowered {
     digit: u64,
     t: u64,

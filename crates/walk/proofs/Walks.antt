@@ -5,7 +5,7 @@ use mathlib.Core.Path.{◌≡◌, ◌∙◌}
 use Prim.Native.Nat.{ℕ, ◌^◌, ◌<◌}
 use lib.ListN.{length}
 use Rattle.solids.specs.Triangles.{side_of}
-use Rattle.geometry.specs.Paths.{number, digits}
+use Rattle.geometry.specs.Paths.{digits}
 use Rattle.geometry.specs.Steps.{walked}
 use Rattle.geometry.proofs.Paths.{number<, length_digits}
 use Rattle.geometry.proofs.Across.{length-walked}

@@ -1,17 +1,19 @@
 // The step by digits: the walk over a path, from its last digit upwards.
 
+#![tactic(auto)]
+
 ghost use Rattle.std.specs.Prelude.{◌≡◌, ◌^◌, ◌≤◌, ◌<◌};
 ghost use Rattle.walk.specs.Walks.{turn_of, Walks};
 
 // What the walk does at a digit: it stops, or it climbs; in both cases with the digit's replacement.
-#[derive(Drop)]
+#[derive(Clone, Copy)]
 pub enum Turn {
     Stop(u64),
     Climb(u64),
 }
 
 // Where the walk leads: the path with its replacements, and whether it passed the first digit.
-#[derive(Drop)]
+#[derive(Clone, Copy)]
 pub struct Walked {
     pub path: u64,
     pub crossed: bool,

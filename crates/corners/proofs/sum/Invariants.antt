@@ -1,0 +1,13 @@
+-- The places passed hold the sums; no sum of two weights is more than that of all.
+-- Assumes nothing.
+use mathlib.Core.Path.{◌≡◌}
+use Prim.Native.Nat.{ℕ, ◌+◌, ◌-◌, ◌<◌, ◌≤◌}
+use lib.ListN.{length, get_or}
+use Rattle.corners.proofs.sum.Given as goal
+
+abbrev pub invariant-loop-v : goal.invariant-loop-v
+invariant-loop-v l =
+    (l.v ≤ 12) × (length l.weights ≡ 12) × ((k : ℕ) → k < l.v → get_or l.weights k 0 ≡ get_or l.a k 0 + get_or l.b k 0)
+
+abbrev pub decreases-loop-v : goal.decreases-loop-v
+decreases-loop-v l = 12 - l.v
