@@ -2,6 +2,8 @@
 // a look at its last two digits, and for each side that they ask for one step of its parent and one search. Most cells beside
 // a leaf's parent stand near the leaf: `at`, its index, is handed on as the search's guess.
 
+#![tactic(auto)]
+
 ghost use Rattle.std.specs.Prelude.{◌≡◌, ◌+◌, ◌*◌, ◌<◌, ◌≤◌, length, take};
 ghost use Rattle.refusals.specs.Answers.{Tells};
 ghost use Rattle.codes.specs.Codes.{depth};

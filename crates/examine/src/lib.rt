@@ -1,13 +1,15 @@
 // The examination of a lent slice, with which every call on a mesh begins: whether it holds a sound mesh, and of how many
 // leaves. One linear pass over the leaves, the zeros after them, and the level test.
 
+#![tactic(auto)]
+
 ghost use Rattle.std.specs.Prelude.{◌≡◌, ◌≤◌, length};
 ghost use Rattle.solids.specs.Solids.{Known};
 ghost use Rattle.soundness.specs.Regions.{all_faces, FaceSet};
 ghost use Rattle.examine.specs.Examined.{first_solid, whole_of, Examined};
 
 // What is found: more slots than a mesh may have, no sound mesh, or a sound one of so many leaves.
-#[derive(Drop)]
+#[derive(Clone, Copy)]
 pub enum Seen {
     Long,
     Unsound,

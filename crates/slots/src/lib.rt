@@ -1,5 +1,7 @@
 // Slots of a mesh as numbers in a slice: searched, cleared, one made four and four made one. Nothing here knows of triangles.
 
+#![tactic(auto)]
+
 ghost use Rattle.std.specs.Prelude.{◌≡◌, ◌+◌, ◌/◌, ◌^◌, ◌<◌, ◌≤◌, length, take};
 ghost use Rattle.refusals.specs.Answers.{Tells};
 ghost use Rattle.soundness.specs.Leaves.{Ascends};

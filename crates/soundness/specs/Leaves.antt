@@ -1,4 +1,4 @@
--- Leaves in their slots, and the finest cells that lie in them. The cell of depth 26 at a place is the code codeAt g 26.
+-- Leaves in their slots, and the finest cells that lie in them. The cell of depth 26 at a place is the code code_at g 26.
 --
 --   Leaf L x   == x is one of the leaves L
 --   Ascends L  == each of L is less than all that follow

@@ -1,6 +1,8 @@
 // Soundness of a mesh as mathematics: what a sound mesh is, what changes do to it, what its sides meet. No code but the type
 // of what a side meets and the test of a set of faces.
 
+#![tactic(auto)]
+
 ghost use Rattle.std.specs.Prelude.{List, ◌≡◌, ℕ, ◌+◌, ◌<◌, ◌≤◌, length};
 ghost use Rattle.solids.specs.Solids.{Known};
 ghost use Rattle.refusals.specs.Answers.{Tells};
@@ -15,7 +17,7 @@ ghost use Rattle.soundness.specs.declared.Met as met;
 
 // What a side of a leaf meets: one larger leaf, one of equal size, two smaller ones (ascending), or, at the edge of a region,
 // none.
-#[derive(Drop)]
+#[derive(Clone, Copy)]
 pub enum Met {
     Larger(u64),
     Equal(u64),

@@ -1,5 +1,7 @@
 // The linear pass: whether the first slots of a slice tile the faces of a set, a number with one bit for each face.
 
+#![tactic(auto)]
+
 ghost use Rattle.std.specs.Prelude.{◌≡◌, ◌%◌, ◌^◌, ◌<◌, ◌≤◌};
 ghost use Rattle.solids.specs.Solids.{Known};
 ghost use Rattle.refusals.specs.Answers.{Tells};

@@ -1,0 +1,7 @@
+-- A cell has 4 ^ (26 - depth) places, a power of two that fits a word.
+-- Assumes nothing.
+use Rattle.tiling.proofs.Places.{size_bits}
+use Rattle.tiling.proofs.size_of.Goals as goal
+
+pub returns : goal.returns
+returns c = size_bits c.args.depth c.requires
