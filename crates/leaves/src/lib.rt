@@ -1,6 +1,8 @@
 // The leaves of a mesh in its slots: found, counted out, written, split and joined. Inner functions: callers have checked
 // that the slots hold a mesh, and know how many leaves it has.
 
+#![tactic(auto)]
+
 ghost use Rattle.std.specs.Prelude.{◌≡◌, ◌+◌, ◌<◌, ◌≤◌, length, get_or, take};
 ghost use Rattle.solids.specs.Solids.{Known};
 ghost use Rattle.codes.specs.Codes.{Code, depth};
@@ -10,14 +12,14 @@ ghost use Rattle.soundness.specs.Changes.{fresh_leaves, refined, coarsened};
 ghost use Rattle.leaves.specs.Leaves.{Covered, Filled, LeafAt, FourAt, RunOf};
 
 // A place among the leaves, or none.
-#[derive(Drop)]
+#[derive(Clone, Copy)]
 pub enum Found {
     At(usize),
     Nothing,
 }
 
 // The leaves from `from` on, up to `to`.
-#[derive(Drop)]
+#[derive(Clone, Copy)]
 pub struct Run {
     pub from: usize,
     pub to: usize,

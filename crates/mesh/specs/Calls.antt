@@ -1,21 +1,21 @@
 -- What the calls on a mesh answer, for any slots and numbers. xs are the slots before the call; S is the number of a solid, Q
 -- a set of its faces, all of them for a whole mesh.
 --
---   Freshened S Q xs o                                                                   == o is the outcome of making the mesh anew
---   Refined Q xs c o                                                                     == o is the outcome of refining the leaf c
---   Coarsened Q xs c o                                                                   == o is the outcome of coarsening to the cell c
---   AcrossOf Q xs c s a                                                                  == a is the answer for what lies across side s of the leaf c
---   BoundsOf Q xs c p                                                                    == p is the answer for where the run under the cell c starts and how many leaves it has
---   RunOf Q xs c ys                                                                      == ys are the slots of the run under the cell c
---   CountOf Q xs c r                                                                     == r is the reply for the number of leaves in that run
---   Held xs n                                                                            == the slots hold a sound whole mesh of n leaves: what an inner function rests on
---   kept xs k                                                                            == the outcome of a refusal: its number, and the slots as they were
---   mesh_faults                                                                          == what every call on a mesh asks first
---   unless_blocked, BlockedBy                                                            == a change is stopped by the least leaf in its way, or goes on
+--   Freshened S Q xs o        == o is the outcome of making the mesh anew
+--   Refined Q xs c o          == o is the outcome of refining the leaf c
+--   Coarsened Q xs c o        == o is the outcome of coarsening to the cell c
+--   AcrossOf Q xs c s a       == a is the answer for what lies across side s of the leaf c
+--   BoundsOf Q xs c p         == p is the answer for where the run under the cell c starts and how many leaves it has
+--   RunOf Q xs c ys           == ys are the slots of the run under the cell c
+--   CountOf Q xs c r          == r is the reply for the number of leaves in that run
+--   Held xs n                 == the slots hold a sound whole mesh of n leaves: what an inner function rests on
+--   kept xs k                 == the outcome of a refusal: its number, and the slots as they were
+--   mesh_faults               == what every call on a mesh asks first
+--   unless_blocked, BlockedBy == a change is stopped by the least leaf in its way, or goes on
 --   refine_end, refine_leaf_end, coarsen_end, coarsen_leaves_end, across_end, bounds_end == what is asked from a point in the sequence on
---   Crossed xs c s a                                                                     == a are the parts of what side s of the leaf c meets
---   Bounded xs c p                                                                       == p is where the run under c starts and how many leaves it has, and the part of the slots holds them
---   come_before, start_of                                                                == how many leaves come before the run; where it starts, 0 if it is empty
+--   Crossed xs c s a          == a are the parts of what side s of the leaf c meets
+--   Bounded xs c p            == p is where the run under c starts and how many leaves it has, and the part of the slots holds them
+--   come_before, start_of     == how many leaves come before the run; where it starts, 0 if it is empty
 --
 -- Assumes nothing.
 use Rattle.std.specs.Prelude.{cond, List, [], ◌∷◌, ◌⊎◌, ◌≡◌, ℕ, ◌+◌, ◌<◌, ◌≤◌, eqb, ltb, length, take, drop}

@@ -2,6 +2,8 @@
 // once and then goes on with inner functions, which rest on a sound mesh and its count. No call has a `requires`, and a
 // refusal writes nothing.
 
+#![tactic(auto)]
+
 ghost use Rattle.std.specs.Prelude.{Bool, List, ◌≡◌, ℕ, ◌+◌, ◌-◌, ◌<◌, ◌≤◌, get_or};
 ghost use Rattle.refusals.specs.Refusals.{Single};
 ghost use Rattle.refusals.specs.Answers.{Tells};
@@ -20,7 +22,7 @@ use examine::Seen;
 use soundness::Met;
 
 // The answer of a call that changes a mesh: made, stopped by a leaf in its way (the least one), or refused.
-#[derive(Drop)]
+#[derive(Clone, Copy)]
 pub enum Change {
     Made,
     Blocked(u64),
@@ -28,7 +30,7 @@ pub enum Change {
 }
 
 // That answer in parts: the number, and the leaf in the way or 0.
-#[derive(Drop)]
+#[derive(Clone, Copy)]
 pub struct Told {
     pub number: u64,
     pub value: u64,
@@ -51,21 +53,21 @@ pub fn in_parts(change: Change) -> Told
 }
 
 // What lies across a side of a leaf, or the number of the refusal.
-#[derive(Drop)]
+#[derive(Clone, Copy)]
 pub enum Facing {
     Side(Met),
     Refused(u64),
 }
 
 // Where the run under a cell starts and how many leaves it has, or the number of the refusal.
-#[derive(Drop)]
+#[derive(Clone, Copy)]
 pub enum Extent {
     Part(usize, usize),
     Refused(u64),
 }
 
 // How many leaves are under a cell, or the number of the refusal.
-#[derive(Drop)]
+#[derive(Clone, Copy)]
 pub enum Counted {
     Leaves(usize),
     Refused(u64),

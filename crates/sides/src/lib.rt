@@ -1,6 +1,8 @@
 // What a side of a leaf meets, and the least leaf in the way of a change. The mesh is sound: its leaves stand in the first `n`
 // slots and cover the faces `faces`.
 
+#![tactic(auto)]
+
 ghost use Rattle.std.specs.Prelude.{◌≡◌, ◌<◌, ◌≤◌, length, take};
 ghost use Rattle.codes.specs.Codes.{depth, Code};
 ghost use Rattle.soundness.specs.Sides.{MetIs, BlocksRefine, BlocksCoarsen};

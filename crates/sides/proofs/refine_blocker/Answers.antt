@@ -1,0 +1,7 @@
+-- The one leaf searched is the leaf itself.
+-- Assumes nothing.
+use Rattle.sides.proofs.Blocked.{refine_all}
+use Rattle.sides.proofs.refine_blocker.Goals as goal
+
+pub returns : goal.returns
+returns c = refine_all _ _ _ c.least_blocker.ensures
