@@ -12,7 +12,6 @@ use mathlib.Core.Path.{sym, subst}
 use Prim.Native.Nat.{ℕ, ◌+◌}
 use lib.ListN.{drop, take}
 use lib.Seq.{drop-drop}
-use Rattle.codes.specs.Codes.{solid}
 use Rattle.soundness.specs.Regions.{all_faces}
 use Rattle.soundness.specs.Soundness.{Sound, SoundIn}
 use Rattle.soundness.proofs.Fresh.{sound_solid}

@@ -1,5 +1,7 @@
 // What `meshlist` prints, as one function from the bytes read to the bytes written. A page is where the text is put in.
 
+#![tactic(auto)]
+
 ghost use Rattle.std.specs.Prelude.{List, ◌⊎◌, ◌≡◌, ℕ, ◌+◌, ◌*◌, ◌≤◌, length, take, drop};
 ghost use Rattle.refusals.specs.Refusals.{Single};
 ghost use Rattle.refusals.specs.Answers.{Tells};
@@ -9,8 +11,7 @@ ghost use Rattle.soundness.specs.Soundness.{SoundIn};
 ghost use Rattle.sides.specs.Sides.{InMesh};
 ghost use Rattle.examine.specs.Examined.{whole_of};
 ghost use Rattle.mesh.specs.Calls.{Held};
-ghost use Rattle.listing.specs.Listing.{R, C, SolidFirst, unreadable, answer, difference, LeafLine, LeafLines, Goes, Prints};
-ghost use Rattle.listing.specs.Listing.{width};
+ghost use Rattle.listing.specs.Listing.{R, C, SolidFirst, unreadable, answer, difference, width, LeafLine, LeafLines, Goes, Prints};
 ghost use Rattle.listing.specs.Lines.{SolidIs, OrderIs, Printed, Grown, Obeyed};
 
 use examine::Seen;
