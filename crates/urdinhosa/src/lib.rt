@@ -1,4 +1,7 @@
-// The C interface, whole: each function stands in include/urdinhosa.h and promises what the call under it promises.
+// The C interface, whole: each function stands in include/urdinhosa.h and promises what the call under it promises. The crate
+// urdinhosa_c exports them to C under these names.
+
+#![tactic(auto)]
 
 ghost use Rattle.std.specs.Prelude.{true, ◌≡◌, ℕ, ◌^◌, ◌≤◌, List};
 ghost use Rattle.refusals.specs.Refusals.{Single};
@@ -27,15 +30,13 @@ fn one_number(answer: Answer) -> u64
     }
 }
 
-#[unsafe(no_mangle)]
-pub extern "C" fn urdinhosa_pack(solid: u64, face: u64, path: u64, depth: u64) -> u64
+pub fn urdinhosa_pack(solid: u64, face: u64, path: u64, depth: u64) -> u64
     ensures { Gives (Packed solid face path depth) result }
 {
     one_number(codes::pack(solid, face, path, depth))
 }
 
-#[unsafe(no_mangle)]
-pub extern "C" fn urdinhosa_unpack(code: u64, fields: &mut [u64; 4]) -> u64
+pub fn urdinhosa_unpack(code: u64, fields: &mut [u64; 4]) -> u64
     ensures { Writes code result fields.new }
 {
     match codes::unpack(code) {
@@ -50,38 +51,33 @@ pub extern "C" fn urdinhosa_unpack(code: u64, fields: &mut [u64; 4]) -> u64
     }
 }
 
-#[unsafe(no_mangle)]
-pub extern "C" fn urdinhosa_parent(code: u64) -> u64
+pub fn urdinhosa_parent(code: u64) -> u64
     ensures { Gives (ParentOf code) result }
 {
     one_number(codes::parent(code))
 }
 
-#[unsafe(no_mangle)]
-pub extern "C" fn urdinhosa_child(code: u64, digit: u64) -> u64
+pub fn urdinhosa_child(code: u64, digit: u64) -> u64
     ensures { Gives (ChildOf code digit) result }
 {
     one_number(codes::child(code, digit))
 }
 
-#[unsafe(no_mangle)]
-pub extern "C" fn urdinhosa_locate(solid: u64, face: u64, t: u64, l: u64, r: u64, depth: u64) -> u64
+pub fn urdinhosa_locate(solid: u64, face: u64, t: u64, l: u64, r: u64, depth: u64) -> u64
     ensures { Gives (Located solid face t l r depth) result }
 {
     one_number(points::locate(solid, face, t, l, r, depth))
 }
 
 // The step by carries.
-#[unsafe(no_mangle)]
-pub extern "C" fn urdinhosa_step(code: u64, direction: u64) -> u64
+pub fn urdinhosa_step(code: u64, direction: u64) -> u64
     ensures { Gives (Stepped code direction) result }
 {
     one_number(steps::step(code, direction))
 }
 
 // The step by digits.
-#[unsafe(no_mangle)]
-pub extern "C" fn urdinhosa_walk(code: u64, direction: u64) -> u64
+pub fn urdinhosa_walk(code: u64, direction: u64) -> u64
     ensures { Gives (Stepped code direction) result }
 {
     one_number(steps::walk(code, direction))
@@ -94,22 +90,19 @@ pub fn methods_agree(code: u64, direction: u64) -> bool
     urdinhosa_step(code, direction) == urdinhosa_walk(code, direction)
 }
 
-#[unsafe(no_mangle)]
-pub extern "C" fn urdinhosa_sound(slots: &[u64]) -> bool
+pub fn urdinhosa_sound(slots: &[u64]) -> bool
     ensures { Tells result (SoundIn (whole_of slots.now) slots.now) }
 {
     mesh::sound(slots)
 }
 
-#[unsafe(no_mangle)]
-pub extern "C" fn urdinhosa_fresh(slots: &mut [u64], solid: u64) -> u64
+pub fn urdinhosa_fresh(slots: &mut [u64], solid: u64) -> u64
     ensures { Freshened solid (all_faces solid) slots.old (outcome (told result 0) slots.new) }
 {
     mesh::in_parts(mesh::fresh(slots, solid)).number
 }
 
-#[unsafe(no_mangle)]
-pub extern "C" fn urdinhosa_refine(slots: &mut [u64], leaf: u64, blocker: &mut u64) -> u64
+pub fn urdinhosa_refine(slots: &mut [u64], leaf: u64, blocker: &mut u64) -> u64
     ensures { Refined (whole_of slots.old) slots.old leaf (outcome (told result blocker.new) slots.new) }
 {
     let answer = mesh::in_parts(mesh::refine(slots, leaf));
@@ -117,8 +110,7 @@ pub extern "C" fn urdinhosa_refine(slots: &mut [u64], leaf: u64, blocker: &mut u
     answer.number
 }
 
-#[unsafe(no_mangle)]
-pub extern "C" fn urdinhosa_coarsen(slots: &mut [u64], cell: u64, blocker: &mut u64) -> u64
+pub fn urdinhosa_coarsen(slots: &mut [u64], cell: u64, blocker: &mut u64) -> u64
     ensures { Coarsened (whole_of slots.old) slots.old cell (outcome (told result blocker.new) slots.new) }
 {
     let answer = mesh::in_parts(mesh::coarsen(slots, cell));
@@ -127,7 +119,7 @@ pub extern "C" fn urdinhosa_coarsen(slots: &mut [u64], cell: u64, blocker: &mut 
 }
 
 // What lies across a side, in parts.
-#[derive(Drop)]
+#[derive(Clone, Copy)]
 struct Side {
     number: u64,
     level: i64,
@@ -180,8 +172,7 @@ fn facing_in_parts(facing: Facing) -> Side
     }
 }
 
-#[unsafe(no_mangle)]
-pub extern "C" fn urdinhosa_across(
+pub fn urdinhosa_across(
     slots: &[u64],
     leaf: u64,
     direction: u64,
@@ -199,13 +190,7 @@ pub extern "C" fn urdinhosa_across(
     answer.number
 }
 
-#[unsafe(no_mangle)]
-pub extern "C" fn urdinhosa_run(
-    slots: &[u64],
-    cell: u64,
-    start: &mut usize,
-    count: &mut usize,
-) -> u64
+pub fn urdinhosa_run(slots: &[u64], cell: u64, start: &mut usize, count: &mut usize) -> u64
     ensures { BoundsOf (whole_of slots.now) slots.now cell (told_part result start.new count.new) }
 {
     match mesh::bounds(slots, cell) {
