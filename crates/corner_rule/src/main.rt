@@ -2,12 +2,15 @@
 // solid and depth are asked for both end corners. Exactly one other cell has them, and both steps lead to it. A line is the
 // solid, the depth, how many cells and sides there are, and over how many sides all of that holds.
 
+#![tactic(auto)]
+
 ghost use Rattle.std.specs.Prelude.{◌*◌, ◌+◌, ◌≤◌, ◌<◌, length};
 
 use corners::Corners;
 use refusals::Answer;
 use show::{decimal, text};
 use solids::{Icosahedron, Octahedron, Tetrahedron};
+use std::io;
 
 // The other cells that have both end corners of a side: how many, and the last of them.
 #[derive(Drop)]
@@ -121,39 +124,39 @@ fn all_agreeing(weights: &[[u64; 12]], solid: u64, depth: u64, cells: usize) -> 
     agreeing
 }
 
-fn counted(number: usize, words: &[u8]) {
-    decimal(number as u64);
-    text(words);
+fn counted(rt: &impl Print, number: usize, words: &[u8]) -> io::Result<()> {
+    decimal(rt, number as u64)?;
+    text(rt, words)
 }
 
 // Runs the rule on all cells of a depth, and writes the line.
-fn at_depth(solid: u64, depth: u64, cells: usize)
+fn at_depth(rt: &impl Print, solid: u64, depth: u64, cells: usize) -> io::Result<()>
     requires { (depth ≤ 26) × (cells ≤ 320) }
 {
     let none = [0u64; 12];
     let mut weights = [none; 960];
     write_corners(&mut weights, solid, depth, cells);
-    text(b"solid ");
-    counted(solid as usize, b", depth ");
-    counted(depth as usize, b": ");
-    counted(cells, b" cells, ");
-    counted(3 * cells, b" sides, ");
-    counted(all_agreeing(&weights, solid, depth, cells), b" agree\n");
+    text(rt, b"solid ")?;
+    counted(rt, solid as usize, b", depth ")?;
+    counted(rt, depth as usize, b": ")?;
+    counted(rt, cells, b" cells, ")?;
+    counted(rt, 3 * cells, b" sides, ")?;
+    counted(rt, all_agreeing(&weights, solid, depth, cells), b" agree\n")
 }
 
 // Each level has four times as many cells.
-fn on_solid(solid: u64, faces: u64)
+fn on_solid(rt: &impl Print, solid: u64, faces: u64) -> io::Result<()>
     requires { faces ≤ 20 }
 {
     let cells = faces as usize;
-    at_depth(solid, 0, cells);
-    at_depth(solid, 1, 4 * cells);
-    at_depth(solid, 2, 16 * cells);
+    at_depth(rt, solid, 0, cells)?;
+    at_depth(rt, solid, 1, 4 * cells)?;
+    at_depth(rt, solid, 2, 16 * cells)
 }
 
-fn main() {
-    on_solid(1, Tetrahedron::FACES);
-    on_solid(2, Octahedron::FACES);
-    on_solid(3, Icosahedron::FACES);
-    at_depth(1, 3, 64 * Tetrahedron::FACES as usize);
+fn main(rt: HostRuntime) -> io::Result<()> {
+    on_solid(&rt, 1, Tetrahedron::FACES)?;
+    on_solid(&rt, 2, Octahedron::FACES)?;
+    on_solid(&rt, 3, Icosahedron::FACES)?;
+    at_depth(&rt, 1, 3, 64 * Tetrahedron::FACES as usize)
 }

@@ -1,18 +1,19 @@
 // What the programs write with, on standard output.
 
-use libc::STDOUT_FILENO;
+#![tactic(auto)]
 
-pub fn text(bytes: &[u8]) {
-    io::write_all(STDOUT_FILENO, bytes);
+use std::io;
+
+pub fn text(rt: &impl Print, bytes: &[u8]) -> io::Result<()> {
+    rt.write_all(bytes)
 }
 
 // A number in hexadecimal, after a space.
-pub fn shown(number: u64) {
-    text(b" ");
-    io::print_hex(STDOUT_FILENO, number, 1);
+pub fn shown(rt: &impl Print, number: u64) -> io::Result<()> {
+    print!(rt; " {number:x}")
 }
 
 // A number in decimal.
-pub fn decimal(number: u64) {
-    io::print_decimal(STDOUT_FILENO, number);
+pub fn decimal(rt: &impl Print, number: u64) -> io::Result<()> {
+    print!(rt; "{number}")
 }
