@@ -1,7 +1,8 @@
 #!/usr/bin/env python3
 """Gives the clauses that port.py named after their form (by_index, by_index_2, ..) names of what they say.
 
-usage: python3 tools/labels.py        at the top of the repository, once, after port.py and respell.py
+usage: python3 tools/labels.py        at the top of the repository, once, after port.py, respell.py and `rt fmt`. It counts the clauses of
+       that text, and is for it alone
 """
 
 import os

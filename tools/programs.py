@@ -1,7 +1,8 @@
 #!/usr/bin/env python3
 """Writes the programs over std, and the crate that C links.
 
-usage: python3 tools/programs.py        at the top of the repository, once, after port.py and respell.py; then rt fmt in each crate it names
+usage: python3 tools/programs.py        at the top of the repository, once, after port.py and respell.py; then `rt fmt` in each crate it names.
+       It is for the text that they leave alone
 
 - The functions of a program that print take the runtime first and hand a failed write up; `main` returns it.
 - show and meshlist stand on std alone, in crates.txt too.
@@ -66,13 +67,13 @@ fn main(rt: HostRuntime) -> io::Result<()> {
 }
 '''
 
-READ_FULL = '''-- What was read lies in the buffer, which keeps its length.
+READ_FULL = '''-- What has been read lies in the buffer.
 -- Assumes nothing.
-use Rattle.std.proofs.Common.{length, ◌≡◌, ◌-◌, ◌≤◌}
+use Rattle.std.proofs.Common.{length, ◌-◌, ◌≤◌}
 use Rattle.meshlist.proofs.read_full.Given as goal
 
 abbrev pub invariant-loop-done : goal.invariant-loop-done
-invariant-loop-done g l = (l.done ≤ length l.buffer) × (length l.buffer ≡ length l.initial.buffer)
+invariant-loop-done g l = l.done ≤ length l.buffer
 
 abbrev pub decreases-loop-done : goal.decreases-loop-done
 decreases-loop-done g l = length l.initial.buffer - l.done

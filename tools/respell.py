@@ -1,7 +1,7 @@
 #!/usr/bin/env python3
 """Brings the repository's own definitions and lemmas to the language's spelling: words in snake case, types in upper camel case.
 
-usage: python3 tools/respell.py [--check]        at the top of the repository
+usage: python3 tools/respell.py [--check]        at the top of the repository, once, right after the kit's port.py
 
 It goes through specs/ and proofs/ of each crate, the ghost parts of src/ (clauses, ghost items, ghost imports) and the texts of
 must-fail/*.edit. A name turns if the repository declares it in an .antt file (a definition, a lemma, a field, a local name) and it has
@@ -9,6 +9,7 @@ a capital inside or a dash: childCorners -> child_corners, put-more -> put_more,
 of a word of the library, of a type or of an operator to another name: length-digits, Known-has, length-⊕. What a file imports from the
 library keeps its spelling there. Functions of src/, strings, inputs and outputs keep their names.
 --check writes nothing and says what would turn. Exit status 1 where two names would fall together: give one of them a row in BY_HAND.
+It is for the text that port.py leaves, and stops where an Answers.antt of a function tells that the port is past that.
 """
 
 import glob
@@ -95,7 +96,7 @@ def part(word):
     return re.sub(r"(?<=[a-z0-9₀-₉])([A-Z])", lambda m: "_" + m.group(1).lower(), word)
 
 
-def respelled(name, heads):
+def respelled(name):
     if name in BY_HAND:
         return BY_HAND[name]
     each = [part(it) for it in name.split("-")]
@@ -126,10 +127,8 @@ def table():
             foreigns[p] = f - top
             tops |= top
             locals_ |= local
-    heads = {it for it in tops if re.fullmatch(r"[\w'₀-₉]+", it)}
-    heads |= {part(it) for it in tops if "-" not in it}
     names = {it for it in tops | locals_ if turns(it)}
-    to = {it: respelled(it, heads) for it in sorted(names)}
+    to = {it: respelled(it) for it in sorted(names)}
     to.update((a, b) for a, b in BY_HAND.items() if a in tops | locals_)
     to = {a: b for a, b in to.items() if a != b}
     # A lemma that would have its function's name gets '_lem'.
@@ -146,9 +145,7 @@ def clashes(to, tops, locals_, foreigns):
     for a, b in to.items():
         back.setdefault(b, []).append(a)
     for b, each in sorted(back.items()):
-        if len(each) > 1 and not all(b == part(e.replace("-", "_")) for e in each):
-            bad.append((b, each))
-        elif len(each) > 1:
+        if len(each) > 1:
             bad.append((b, each))
     kept = (tops | locals_) - set(to)
     for a, b in to.items():
@@ -248,6 +245,9 @@ def turned_rt(text, to):
 
 def main():
     write = "--check" not in sys.argv[1:]
+    if glob.glob("crates/*/proofs/*/Answers.antt"):
+        print("respell: the port is past this: nothing is written")
+        return 1
     to, tops, locals_, foreigns = table()
     bad = clashes(to, tops, locals_, foreigns)
     for b, each in bad:
