@@ -5,7 +5,7 @@
 --   Examined Q xs e == what each case of the enum Seen says
 --
 -- Assumes nothing.
-use Rattle.std.specs.Prelude.{List, ◌≡◌, ℕ, ◌≤◌, length, get_or}
+use Rattle.std.specs.Prelude.{List, ◌≡◌, ℕ, ◌≤◌, length, slice_index}
 use Rattle.codes.specs.Codes.{solid}
 use Rattle.soundness.specs.Regions.{all_faces}
 use Rattle.soundness.specs.Leaves.{leaves}
@@ -14,7 +14,7 @@ use Rattle.examine.specs.declared.Seen.{Seen}
 use Rattle.examine.specs.declared.Seen.TheVariants.{Long, Unsound, Leaves}
 
 abbrev pub first_solid : List ℕ → ℕ
-first_solid xs = solid (get_or xs 0 0)
+first_solid xs = solid (slice_index xs 0)
 
 abbrev pub whole_of : List ℕ → ℕ
 whole_of xs = all_faces (first_solid xs)

@@ -15,7 +15,7 @@
 --   step s c           == the cell that the step in direction s leads to from c
 --
 -- Assumes nothing.
-use Rattle.std.specs.Prelude.{Bool, true, false, ◌&&◌, not, cond, List, [], ◌∷◌, map, ℕ}
+use Rattle.std.specs.Prelude.{Bool, true, false, ◌&&◌, not, List, [], ◌∷◌, map, ℕ, if◌then◌else◌}
 use Rattle.solids.specs.Triangles.{Side, left, right, vertical}
 use Rattle.solids.specs.Solids.{Solid, next_face, mirrored}
 use Rattle.geometry.specs.Corners.{Digit, d00, d01, d10, d11}
@@ -59,7 +59,7 @@ replaced vertical d11 = d11
 -- climbs."
 unfoldable pub walked : Side → List Digit → List Digit
 walked s [] = []
-walked s (d ∷ ds) = replaced s d ∷ cond (stops s d) ds (walked s ds)
+walked s (d ∷ ds) = replaced s d ∷ (if stops s d then ds else walked s ds)
 
 -- "A walk that passes the first digit crosses a seam [..]."
 unfoldable pub crosses : Side → List Digit → Bool

@@ -8,7 +8,7 @@
 --                         below the cell
 --
 -- Assumes nothing.
-use Rattle.std.specs.Prelude.{List, ◌≡◌, ℕ, ◌+◌, ◌-◌, ◌<◌, ◌≤◌, length, get_or, take, drop}
+use Rattle.std.specs.Prelude.{List, ◌≡◌, ℕ, ◌+◌, ◌-◌, ◌<◌, ◌≤◌, length, take, slice_index, slice_range}
 use Rattle.codes.specs.Places.{child_code}
 use Rattle.soundness.specs.Leaves.{Leaf, Ascends, leaves, pad}
 use Rattle.soundness.specs.Soundness.{Covers}
@@ -30,12 +30,12 @@ pub record Filled (xs : List ℕ) (n : ℕ) : Type 0 where
   pub ascend : Ascends (leaves xs)
 
 abbrev pub LeafAt : List ℕ → ℕ → ℕ → Found → Type 0
-LeafAt xs n code (At i) = (i < n) × (get_or xs i 0 ≡ code)
+LeafAt xs n code (At i) = (i < n) × (slice_index xs i ≡ code)
 LeafAt xs n code Nothing = Leaf (take n xs) code → ⊥
 
 -- "if all four children are leaves"
 abbrev pub FourAt : List ℕ → ℕ → ℕ → Found → Type 0
-FourAt xs n cell (At i) = (i + 4 ≤ n) × ((q : ℕ) → q < 4 → get_or xs (i + q) 0 ≡ child_code cell q)
+FourAt xs n cell (At i) = (i + 4 ≤ n) × ((q : ℕ) → q < 4 → slice_index xs (i + q) ≡ child_code cell q)
 FourAt xs n cell Nothing = ((q : ℕ) → q < 4 → Leaf (take n xs) (child_code cell q)) → ⊥
 
 -- "the leaves equal to or inside that cell"
@@ -43,4 +43,4 @@ pub record RunOf (xs : List ℕ) (n cell : ℕ) (r : Run) : Type 0 where
   pub order : r.from ≤ r.to
   pub upto : r.to ≤ n
   pub first : Below (take n xs) cell r.from
-  pub part : take (r.to - r.from) (drop r.from xs) ≡ under cell (take n xs)
+  pub part : slice_range xs r.from r.to ≡ under cell (take n xs)

@@ -3,7 +3,7 @@
 
 #![tactic(auto)]
 
-ghost use Rattle.std.specs.Prelude.{◌≡◌, ◌+◌, ◌<◌, ◌≤◌, length, get_or, take};
+ghost use Rattle.std.specs.Prelude.{◌≡◌, ◌+◌, ◌<◌, ◌≤◌, length, take, slice_index};
 ghost use Rattle.solids.specs.Solids.{Known};
 ghost use Rattle.codes.specs.Codes.{Code, depth};
 ghost use Rattle.codes.specs.Places.{child_code};
@@ -114,8 +114,8 @@ pub fn fresh_into(slots: &mut [u64], solid: u64, faces: u64)
 
 // Splits the leaf at `at`: its four children stand in its place, and the later leaves move up three slots.
 pub fn split_leaf(slots: &mut [u64], n: usize, at: usize)
-    requires { Filled slots.old n × (n + 3 ≤ length slots.old) × (at < n) × Code (get_or slots.old at 0) × (depth (get_or slots.old at 0) < 26) }
-    ensures { slots.new ≡ pad (length slots.old) (refined (get_or slots.old at 0) (leaves slots.old)) }
+    requires { Filled slots.old n × (n + 3 ≤ length slots.old) × (at < n) × Code (slice_index slots.old at) × (depth (slice_index slots.old at) < 26) }
+    ensures { slots.new ≡ pad (length slots.old) (refined (slice_index slots.old at) (leaves slots.old)) }
 {
     let code = slots[at];
     let a = codes::child_of(code, 0);
@@ -128,7 +128,7 @@ pub fn split_leaf(slots: &mut [u64], n: usize, at: usize)
 // Joins the four leaves from `at` on, the children of the cell: they become that one leaf, and the later leaves move down
 // three slots. That they are the children is asked of the first alone: the others stand after it.
 pub fn join_leaves(slots: &mut [u64], n: usize, at: usize, cell: u64)
-    requires { Filled slots.old n × (at + 4 ≤ n) × (get_or slots.old at 0 ≡ child_code cell 0) }
+    requires { Filled slots.old n × (at + 4 ≤ n) × (slice_index slots.old at ≡ child_code cell 0) }
     ensures { slots.new ≡ pad (length slots.old) (coarsened cell (leaves slots.old)) }
 {
     slots::join(slots, at, n, cell);

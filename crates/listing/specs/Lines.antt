@@ -7,7 +7,7 @@
 --   Obeyed l c xs ys before after at end == the order l and c takes the slots xs to ys, and what it prints is put into a page
 --
 -- Assumes nothing.
-use Rattle.std.specs.Prelude.{List, ◌≡◌, ℕ, get_or}
+use Rattle.std.specs.Prelude.{List, ◌≡◌, ℕ, slice_index}
 use Rattle.text.specs.Text.{Put}
 use Rattle.text.specs.declared.Reading.{Reading}
 use Rattle.text.specs.declared.Reading.TheVariants.{Number, Other}
@@ -21,7 +21,7 @@ SolidIs bytes (Number d) = SolidFirst bytes d
 SolidIs bytes Other = (d : ℕ) → SolidFirst bytes d → ⊥
 
 abbrev pub OrderIs : List ℕ → Reading → Type 0
-OrderIs bytes (Number c) = OrderFirst bytes (get_or bytes 0 0) c
+OrderIs bytes (Number c) = OrderFirst bytes (slice_index bytes 0) c
 OrderIs bytes Other = (l c : ℕ) → OrderFirst bytes l c → ⊥
 
 pub record Printed (P : List ℕ → Type 0) (before after : List ℕ) (at end : ℕ) : Type 0 where

@@ -18,7 +18,7 @@
 --   Prints bs t          == the input bs prints t
 --
 -- Assumes nothing.
-use Rattle.std.specs.Prelude.{cond, List, [], ◌∷◌, ◌++◌, ◌⊎◌, ◌≢◌, ◌≡◌, ℕ, zero, suc, ◌+◌, ◌^◌, ◌<◌, ◌≤◌, ltb, length, drop, replicate}
+use Rattle.std.specs.Prelude.{List, [], ◌∷◌, ◌++◌, ◌⊎◌, ◌≢◌, ◌≡◌, ℕ, zero, suc, ◌+◌, ◌^◌, ◌<◌, ◌≤◌, length, drop, replicate, if◌then◌else◌, nat_lt}
 use Rattle.text.specs.Text.{digits}
 use Rattle.soundness.specs.Regions.{all_faces}
 use Rattle.soundness.specs.Leaves.{leaves}
@@ -72,7 +72,7 @@ refused_word = 114 ∷ 101 ∷ 102 ∷ 117 ∷ 115 ∷ 101 ∷ 100 ∷ space ∷
 
 -- no refusal's number has more than two digits
 abbrev pub width : ℕ → ℕ
-width k = cond (ltb k 10) 1 2
+width k = if nat_lt k 10 then 1 else 2
 
 -- "A refused line prints `refused`, a space and the number"
 abbrev pub answer : ℕ → List ℕ

@@ -18,7 +18,7 @@
 --   come_before, start_of     == how many leaves come before the run; where it starts, 0 if it is empty
 --
 -- Assumes nothing.
-use Rattle.std.specs.Prelude.{cond, List, [], ◌∷◌, ◌⊎◌, ◌≡◌, ℕ, ◌+◌, ◌<◌, ◌≤◌, eqb, ltb, length, take, drop}
+use Rattle.std.specs.Prelude.{List, [], ◌∷◌, ◌⊎◌, ◌≡◌, ℕ, ◌+◌, ◌<◌, ◌≤◌, length, take, drop, if◌then◌else◌, ◌==◌, nat_lt}
 use Rattle.solids.specs.Solids.{Known}
 use Rattle.refusals.specs.Refusals.{SOLID, DIRECTION, DEEP, BUFFER, MESH, NOT_LEAF, NOT_FOUR, ROOM, need}
 use Rattle.refusals.specs.Answers.{Reply, done, refused}
@@ -106,10 +106,10 @@ AcrossOf Q xs c s = mesh_faults not_crossed Q xs (code_faults not_crossed c (acr
 -- 0, or anything is refused, the part is the empty one at the start": a run starts after the leaves that come before its cell
 abbrev pub come_before : ℕ → List ℕ → ℕ
 come_before c [] = 0
-come_before c (x ∷ L) = cond (ltb x c) (1 + come_before c L) 0
+come_before c (x ∷ L) = if nat_lt x c then 1 + come_before c L else 0
 
 abbrev pub start_of : ℕ → List ℕ → ℕ
-start_of c L = cond (eqb (length (under c L)) 0) 0 (come_before c L)
+start_of c L = if length (under c L) == 0 then 0 else come_before c L
 
 pub record Bounded (xs : List ℕ) (c : ℕ) (p : Part) : Type 0 where
   pub is : p ≡ part (start_of c (leaves xs)) (length (under c (leaves xs)))

@@ -4,7 +4,7 @@
 
 #![tactic(auto)]
 
-ghost use Rattle.std.specs.Prelude.{Bool, List, ◌≡◌, ℕ, ◌+◌, ◌-◌, ◌<◌, ◌≤◌, get_or};
+ghost use Rattle.std.specs.Prelude.{Bool, List, ◌≡◌, ℕ, ◌+◌, ◌-◌, ◌<◌, ◌≤◌, slice_index};
 ghost use Rattle.refusals.specs.Refusals.{Single};
 ghost use Rattle.refusals.specs.Answers.{Tells};
 ghost use Rattle.codes.specs.Codes.{depth, Code, code_faults};
@@ -115,7 +115,7 @@ pub fn fresh(slots: &mut [u64], solid: u64) -> Change
 
 // The leaf at a slot becomes its four children, unless it is too deep, a larger leaf stands in the way, or there is no room.
 fn refine_leaf(slots: &mut [u64], n: usize, at: usize, leaf: u64) -> Change
-    requires { Held slots.old n × (at < n) × (get_or slots.old at 0 ≡ leaf) × Code leaf }
+    requires { Held slots.old n × (at < n) × (slice_index slots.old at ≡ leaf) × Code leaf }
     ensures { refine_leaf_end slots.old leaf (outcome (change_reply result) slots.new) }
 {
     if 25 < codes::depth_of(leaf) {
@@ -159,7 +159,7 @@ pub fn refine(slots: &mut [u64], leaf: u64) -> Change
 
 // The four children of a cell, which stand from a slot on, become the cell, unless a smaller leaf stands in the way.
 fn coarsen_leaves(slots: &mut [u64], n: usize, at: usize, cell: u64) -> Change
-    requires { Held slots.old n × (at + 4 ≤ n) × ((q : ℕ) → q < 4 → get_or slots.old (at + q) 0 ≡ child_code cell q) × Code cell × (depth cell < 26) }
+    requires { Held slots.old n × (at + 4 ≤ n) × ((q : ℕ) → q < 4 → slice_index slots.old (at + q) ≡ child_code cell q) × Code cell × (depth cell < 26) }
     ensures { coarsen_leaves_end slots.old cell (outcome (change_reply result) slots.new) }
 {
     let blocker = sides::coarsen_blocker(slots, n, faces_in(slots), cell);

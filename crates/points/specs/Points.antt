@@ -10,7 +10,7 @@
 --   Holds c X         == the closed triangle of c holds the point X
 --
 -- Assumes nothing.
-use Rattle.std.specs.Prelude.{cond, List, [], ◌∷◌, ◌≡◌, ℕ, zero, suc, ◌+◌, ◌-◌, ◌*◌, ◌/◌, leb, get_or}
+use Rattle.std.specs.Prelude.{List, [], ◌∷◌, ◌≡◌, ℕ, zero, suc, ◌+◌, ◌-◌, ◌*◌, ◌/◌, if◌then◌else◌, nat_le, slice_index}
 use Rattle.solids.specs.Triangles.{tip, lft, rgt}
 use Rattle.solids.specs.Solids.{Solid}
 use Rattle.geometry.specs.Corners.{Digit, d00, d01, d10, d11, Triangle}
@@ -43,10 +43,10 @@ to d w = record { digit = d; rest = w }
 -- (H−t, H−r, H−l). Else 11, (t, l, r−H)."
 abbrev pub lower : Weights → Lowered
 lower w =
-    cond (leb (half w) w.t) (to d00 (weights (w.t - half w) w.l w.r))
-    (cond (leb (half w) w.l) (to d01 (weights w.t (w.l - half w) w.r))
-    (cond (leb w.r (half w)) (to d10 (weights (half w - w.t) (half w - w.r) (half w - w.l)))
-    (to d11 (weights w.t w.l (w.r - half w)))))
+    if nat_le (half w) w.t then to d00 (weights (w.t - half w) w.l w.r)
+    else if nat_le (half w) w.l then to d01 (weights w.t (w.l - half w) w.r)
+    else if nat_le w.r (half w) then to d10 (weights (half w - w.t) (half w - w.r) (half w - w.l))
+    else to d11 (weights w.t w.l (w.r - half w))
 
 -- "Locating it at a depth goes down a level at a time."
 unfoldable pub down : Weights → ℕ → Weights
@@ -58,7 +58,7 @@ path_to w zero = []
 path_to w (suc n) = (lower (down w n)).digit ∷ path_to w n
 
 abbrev pub weighed : Weights → Triangle → ℕ → ℕ
-weighed w P v = w.t * get_or (P tip) v 0 + w.l * get_or (P lft) v 0 + w.r * get_or (P rgt) v 0
+weighed w P v = w.t * slice_index (P tip) v + w.l * slice_index (P lft) v + w.r * slice_index (P rgt) v
 
 abbrev pub point_of : Solid → ℕ → Weights → ℕ → ℕ
 point_of so f w v = weighed w (face_corners so f) v

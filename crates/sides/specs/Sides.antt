@@ -11,7 +11,7 @@
 --   Blocker P r          == r is the least number with P, or 0 where there is none
 --
 -- Assumes nothing.
-use Rattle.std.specs.Prelude.{Bool, true, false, cond, List, ◌⊎◌, ◌≡◌, ℕ, ◌<◌, ◌≤◌, length, get_or}
+use Rattle.std.specs.Prelude.{Bool, true, false, List, ◌⊎◌, ◌≡◌, ℕ, ◌<◌, ◌≤◌, length, if◌then◌else◌, slice_index}
 use Rattle.codes.specs.Codes.{depth, Code}
 use Rattle.codes.specs.Places.{child_code}
 use Rattle.steps.specs.Edges.{back_no, first, second}
@@ -29,7 +29,7 @@ pub record InMesh (L : List ℕ) (Q a : ℕ) : Type 0 where
 pub record AllIn (L : List ℕ) (Q : ℕ) (A : List ℕ) : Type 0 where
   pub solid : ℕ
   pub mesh : Mesh solid Q L
-  pub leaf : (i : ℕ) → i < length A → Leaf L (get_or A i 0)
+  pub leaf : (i : ℕ) → i < length A → Leaf L (slice_index A i)
 
 pub record FourIn (L : List ℕ) (Q c : ℕ) : Type 0 where
   pub solid : ℕ
@@ -54,12 +54,12 @@ pub record InTheWay (L : List ℕ) (small : Bool) (A : List ℕ) (b : ℕ) : Typ
   pub within : at < length A
   pub side : ℕ
   pub low : side < 3
-  pub stands : Stands L small (get_or A at 0) side b
+  pub stands : Stands L small (slice_index A at) side b
 
 abbrev pub candidate_of : Bool → Met → ℕ
-candidate_of small (Larger b) = cond small 0 b
+candidate_of small (Larger b) = if small then 0 else b
 candidate_of small (Equal b) = 0
-candidate_of small (Smaller b c) = cond small b 0
+candidate_of small (Smaller b c) = if small then b else 0
 candidate_of small Open = 0
 
 pub record Lower (a b r : ℕ) : Type 0 where

@@ -35,7 +35,7 @@ opened xs at n = take (at + 3) xs ++ (slice_range xs at n ++ drop (n + 3) xs)
 
 -- "its four children stand in its place, later leaves move up three slots; slots past the new count are unchanged"
 abbrev pub split_slot : List ℕ → ℕ → ℕ → ℕ → ℕ → ℕ → ℕ → List ℕ
-split_slot xs at n a b c d = take at xs ++ (a ∷ b ∷ c ∷ d ∷ (take (n - (at + 1)) (drop (at + 1) xs) ++ drop (n + 3) xs))
+split_slot xs at n a b c d = take at xs ++ (a ∷ b ∷ c ∷ d ∷ (slice_range xs (at + 1) n ++ drop (n + 3) xs))
 
 -- "later leaves move down three": what stood before `at` and from n on stays
 abbrev pub closed : List ℕ → ℕ → ℕ → List ℕ
@@ -43,4 +43,4 @@ closed xs at n = take at xs ++ (take (n - at) (drop (at + 3) xs) ++ drop n xs)
 
 -- "its four children become that one leaf, later leaves move down three, the freed slots become zero"
 abbrev pub join_at : List ℕ → ℕ → ℕ → ℕ → List ℕ
-join_at xs at n code = take at xs ++ (code ∷ (take (n - (at + 4)) (drop (at + 4) xs) ++ (0 ∷ 0 ∷ 0 ∷ drop n xs)))
+join_at xs at n code = take at xs ++ (code ∷ (slice_range xs (at + 4) n ++ (0 ∷ 0 ∷ 0 ∷ drop n xs)))

@@ -13,7 +13,7 @@
 --   mirrored so s f  == the seam across side s of face f is mirrored
 --
 -- Assumes nothing.
-use Rattle.std.specs.Prelude.{Bool, true, false, ◌||◌, List, [], ◌∷◌, ◌++◌, ℕ, zero, suc, ◌+◌, ◌≤◌, leb, get_or}
+use Rattle.std.specs.Prelude.{Bool, true, false, ◌||◌, List, [], ◌∷◌, ◌++◌, ℕ, zero, suc, ◌+◌, ◌≤◌, nat_le, slice_index, slice_index_or}
 use Rattle.solids.specs.Triangles.{Corner, tip, lft, rgt, Side, left, right, vertical}
 
 pub data Solid : Type 0 where
@@ -77,7 +77,7 @@ at f lft = f.left
 at f rgt = f.right
 
 abbrev pub vertex : Solid → ℕ → Corner → ℕ
-vertex so f p = at (get_or (face_list so) f (face 0 0 0)) p
+vertex so f p = at (slice_index_or (face_list so) f (face 0 0 0)) p
 
 -- "takes the neighbouring face from a table per solid, a row for each direction"
 --
@@ -100,7 +100,7 @@ next_row icosahedron vertical =
     5 ∷ 6 ∷ 7 ∷ 8 ∷ 9 ∷ 0 ∷ 1 ∷ 2 ∷ 3 ∷ 4 ∷ 15 ∷ 16 ∷ 17 ∷ 18 ∷ 19 ∷ 10 ∷ 11 ∷ 12 ∷ 13 ∷ 14 ∷ []
 
 abbrev pub next_face : Solid → Side → ℕ → ℕ
-next_face so s f = get_or (next_row so s) f 0
+next_face so s f = slice_index (next_row so s) f
 
 -- "These are left and right on all octahedron faces and on icosahedron faces 0 to 4 and 15 to 19, and vertical on the
 -- tetrahedron."
@@ -111,6 +111,6 @@ mirrored tetrahedron vertical f = true
 mirrored octahedron left f = true
 mirrored octahedron right f = true
 mirrored octahedron vertical f = false
-mirrored icosahedron left f = leb f 4 || leb 15 f
-mirrored icosahedron right f = leb f 4 || leb 15 f
+mirrored icosahedron left f = nat_le f 4 || nat_le 15 f
+mirrored icosahedron right f = nat_le f 4 || nat_le 15 f
 mirrored icosahedron vertical f = false

@@ -8,7 +8,7 @@
 --   under c L        == those of L that are c or lie inside it, in order
 --
 -- Assumes nothing.
-use Rattle.std.specs.Prelude.{Bool, cond, ◌&&◌, List, [], ◌∷◌, ◌++◌, ℕ, zero, suc, ◌+◌, ◌*◌, ◌/◌, ◌%◌, ◌^◌, eqb, leb, drop}
+use Rattle.std.specs.Prelude.{Bool, ◌&&◌, List, [], ◌∷◌, ◌++◌, ℕ, zero, suc, ◌+◌, ◌*◌, ◌/◌, ◌%◌, ◌^◌, drop, if◌then◌else◌, ◌==◌, nat_eq, nat_le}
 use Rattle.solids.specs.Solids.{solid_of, faces}
 use Rattle.codes.specs.Places.{place, past, code_at, base, child_code}
 
@@ -18,25 +18,25 @@ children c = child_code c 0 ∷ child_code c 1 ∷ child_code c 2 ∷ child_code
 -- "Fresh: all faces of a solid in order": of the k faces from f on, those in Q
 abbrev pub faces_from : ℕ → ℕ → ℕ → ℕ → List ℕ
 faces_from S Q f zero = []
-faces_from S Q f (suc k) = cond (eqb (Q / 2 ^ f % 2) 1) (code_at (base S + f * 2 ^ 52) 0 ∷ []) [] ++ faces_from S Q (f + 1) k
+faces_from S Q f (suc k) = (if Q / 2 ^ f % 2 == 1 then code_at (base S + f * 2 ^ 52) 0 ∷ [] else []) ++ faces_from S Q (f + 1) k
 
 abbrev pub fresh_leaves : ℕ → ℕ → List ℕ
 fresh_leaves S Q = faces_from S Q 0 (faces (solid_of S))
 
 abbrev pub expanded : (ℕ → Bool) → List ℕ → List ℕ
 expanded A [] = []
-expanded A (x ∷ L) = cond (A x) (children x) (x ∷ []) ++ expanded A L
+expanded A (x ∷ L) = (if A x then children x else x ∷ []) ++ expanded A L
 
 -- "Refine a leaf: its four children stand in its place, later leaves move up three slots"
 abbrev pub refined : ℕ → List ℕ → List ℕ
-refined a L = expanded (eqb a) L
+refined a L = expanded (nat_eq a) L
 
 -- "Coarsen a cell: its four children become that one leaf, later leaves move down three"
 abbrev pub coarsened : ℕ → List ℕ → List ℕ
 coarsened c [] = []
-coarsened c (x ∷ L) = cond (eqb (child_code c 0) x) (c ∷ drop 3 L) (x ∷ coarsened c L)
+coarsened c (x ∷ L) = if child_code c 0 == x then c ∷ drop 3 L else x ∷ coarsened c L
 
 -- "the leaves equal to or inside that cell"
 abbrev pub under : ℕ → List ℕ → List ℕ
 under c [] = []
-under c (x ∷ L) = cond (leb (place c) (place x) && leb (past x) (past c)) (x ∷ under c L) (under c L)
+under c (x ∷ L) = if nat_le (place c) (place x) && nat_le (past x) (past c) then x ∷ under c L else under c L

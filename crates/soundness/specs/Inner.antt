@@ -16,7 +16,7 @@
 --   Passes step S Q xs n == what the linear pass, the zeros and the level test find of the first n slots
 --
 -- Assumes nothing.
-use Rattle.std.specs.Prelude.{List, [], ◌∷◌, ◌⊎◌, ◌≡◌, ℕ, ◌-◌, ◌<◌, ◌≤◌, length, get_or, take, drop, replicate}
+use Rattle.std.specs.Prelude.{List, [], ◌∷◌, ◌⊎◌, ◌≡◌, ℕ, ◌-◌, ◌<◌, ◌≤◌, length, take, drop, replicate, slice_index}
 use Rattle.codes.specs.Codes.{depth}
 use Rattle.codes.specs.Places.{place, past, base, end, CodeOn, parent_code, last_digit}
 use Rattle.steps.specs.Edges.{first, OnEdge}
@@ -63,8 +63,8 @@ pub data Where (L : List ℕ) (c : ℕ) : Type 0 where
 
 pub record Below (L : List ℕ) (key r : ℕ) : Type 0 where
   pub upto : r ≤ length L
-  pub less : (i : ℕ) → i < r → get_or L i 0 < key
-  pub rest : (i : ℕ) → r ≤ i → i < length L → key ≤ get_or L i 0
+  pub less : (i : ℕ) → i < r → slice_index L i < key
+  pub rest : (i : ℕ) → r ≤ i → i < length L → key ≤ slice_index L i
 
 abbrev pub Fine : ℕ → List ℕ → ℕ → Type 0
 Fine Q L n = (InFaces Q (place n) → ⊥) ⊎ Present L n

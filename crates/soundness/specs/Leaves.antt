@@ -9,7 +9,7 @@
 --   Apart x y  == no cell of depth 26 lies in both
 --
 -- Assumes nothing.
-use Rattle.std.specs.Prelude.{cond, List, [], ◌∷◌, ◌++◌, ◌⊎◌, ◌≡◌, ℕ, ◌-◌, ◌<◌, ◌≤◌, eqb, length, replicate}
+use Rattle.std.specs.Prelude.{List, [], ◌∷◌, ◌++◌, ◌⊎◌, ◌≡◌, ℕ, ◌-◌, ◌<◌, ◌≤◌, length, replicate, if◌then◌else◌, ◌==◌}
 use Rattle.codes.specs.Places.{place, past}
 
 abbrev pub Leaf : List ℕ → ℕ → Type 0
@@ -23,7 +23,7 @@ Ascends (x ∷ L) = ((y : ℕ) → Leaf L y → x < y) × Ascends L
 -- "Leaves come first, then only zeros."
 abbrev pub leaves : List ℕ → List ℕ
 leaves [] = []
-leaves (x ∷ xs) = cond (eqb x 0) [] (x ∷ leaves xs)
+leaves (x ∷ xs) = if x == 0 then [] else x ∷ leaves xs
 
 abbrev pub pad : ℕ → List ℕ → List ℕ
 pad n L = L ++ replicate (n - length L) 0

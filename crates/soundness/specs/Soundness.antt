@@ -10,7 +10,7 @@
 --   SoundIn Q xs  == the same, of the solid of the first slot
 --
 -- Assumes nothing.
-use Rattle.std.specs.Prelude.{List, ◌≡◌, ℕ, ◌+◌, ◌<◌, ◌≤◌, length, get_or}
+use Rattle.std.specs.Prelude.{List, ◌≡◌, ℕ, ◌+◌, ◌<◌, ◌≤◌, length, slice_index}
 use Rattle.solids.specs.Triangles.{side_of}
 use Rattle.geometry.specs.Neighbours.{Neighbour}
 use Rattle.codes.specs.Codes.{solid, depth, Code, cell_of}
@@ -62,4 +62,4 @@ pub record Sound (S Q : ℕ) (xs : List ℕ) : Type 0 where
   pub mesh : Mesh S Q (leaves xs)
 
 abbrev pub SoundIn : ℕ → List ℕ → Type 0
-SoundIn Q xs = Sound (solid (get_or xs 0 0)) Q xs
+SoundIn Q xs = Sound (solid (slice_index xs 0)) Q xs

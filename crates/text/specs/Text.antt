@@ -8,12 +8,12 @@
 --   Reads bs k r              == what each case of the enum Reading says of the bytes, where k digits in base 16 are asked for
 --
 -- Assumes nothing.
-use Rattle.std.specs.Prelude.{cond, List, [], ◌∷◌, ◌++◌, ◌⊎◌, ◌≡◌, ℕ, zero, suc, ◌+◌, ◌/◌, ◌%◌, ◌^◌, ◌<◌, ltb, length, take}
+use Rattle.std.specs.Prelude.{List, [], ◌∷◌, ◌++◌, ◌⊎◌, ◌≡◌, ℕ, zero, suc, ◌+◌, ◌/◌, ◌%◌, ◌^◌, ◌<◌, length, take, if◌then◌else◌, nat_lt}
 use Rattle.text.specs.declared.Reading.{Reading}
 use Rattle.text.specs.declared.Reading.TheVariants.{Number, Other}
 
 abbrev pub glyph : ℕ → ℕ
-glyph d = cond (ltb d 10) (48 + d) (87 + d)
+glyph d = if nat_lt d 10 then 48 + d else 87 + d
 
 unfoldable pub digits : ℕ → ℕ → ℕ → List ℕ
 digits b zero n = []

@@ -6,7 +6,7 @@
 --                      whether it passes the first digit
 --
 -- Assumes nothing.
-use Rattle.std.specs.Prelude.{Bool, cond, ◌≡◌, ℕ}
+use Rattle.std.specs.Prelude.{Bool, ◌≡◌, ℕ, if◌then◌else◌}
 use Rattle.solids.specs.Triangles.{side_of}
 use Rattle.geometry.specs.Paths.{digit_no, digit_of, number, digits}
 use Rattle.geometry.specs.Steps.{stops, replaced, walked, crosses}
@@ -23,7 +23,7 @@ new_digit s d = digit_no (replaced (side_of s) (digit_of d))
 --   1 right    | 01 to 10, 10 to 11 | 00 to 01, 11 to 00
 --   2 vertical | 00 to 10, 10 to 00 | 01, 11 kept
 unfoldable pub turn_of : ℕ → ℕ → Turn
-turn_of s d = cond (stops (side_of s) (digit_of d)) (Stop (new_digit s d)) (Climb (new_digit s d))
+turn_of s d = if stops (side_of s) (digit_of d) then Stop (new_digit s d) else Climb (new_digit s d)
 
 -- "From the last digit upwards [..]: a stopping digit is replaced and the walk ends; another is replaced and the walk
 -- climbs. [..] A walk that passes the first digit crosses a seam [..]."
