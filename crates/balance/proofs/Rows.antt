@@ -7,14 +7,14 @@ use lib.ListN.{length, get_or, take}
 use Rattle.codes.specs.Places.{parent_code}
 use Rattle.steps.specs.Stepped.{step_code}
 use Rattle.soundness.specs.Inner.{Fine, Asked, Rows}
-use Rattle.soundness.proofs.Leaves.{take-at_leaf}
+use Rattle.soundness.proofs.Leaves.{at_leaf-take}
 use Rattle.balance.specs.Tiled.{SidesFine}
 use Rattle.balance.proofs.Tiled.{slot_leaf}
 
 module _ (Q : ℕ) (xs : List ℕ) (n : ℕ) (h : n ≤ length xs) where
   pub rows_all : ((i : ℕ) → i < n → SidesFine Q (take n xs) (get_or xs i 0)) → Rows Q step_code (take n xs)
   rows_all f s a m q =
-      let r = take-at_leaf xs n a m h in
+      let r = at_leaf-take xs n a m h in
       subst (λ (x : ℕ). Fine Q (take n xs) (step_code s (parent_code x))) r.2 (f r.0 r.1 s (subst (Asked s) (sym r.2) q))
 
   pub rows_at : Rows Q step_code (take n xs) → (i : ℕ) → i < n → SidesFine Q (take n xs) (get_or xs i 0)

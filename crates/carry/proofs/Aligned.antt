@@ -8,7 +8,7 @@ use native.Mathlib.Nat.{one-le-pow}
 use Rattle.solids.specs.Triangles.{Side}
 use Rattle.geometry.specs.Corners.{Digit}
 use Rattle.geometry.specs.Paths.{digit_no, number}
-use Rattle.geometry.proofs.Paths.{length_digits, number_digits}
+use Rattle.geometry.proofs.Paths.{length-digits, number-digits}
 use Rattle.carry.specs.Carries.{digits_of}
 use Rattle.carry.proofs.Words.{word, rep}
 use Rattle.carry.proofs.Slots.{Slot, side_at, slots, slots_length, mask_word}
@@ -21,7 +21,7 @@ slots_of s d w = slots s (32 - d) (digits_of d w)
 
 module _ (s : Side) (d w : ℕ) (h : d ≤ 26) where
   wide : length (slots_of s d w) ≡ 32
-  wide = slots_length s (32 - d) (digits_of d w) ∙ omega (arith, length_digits d (w / 4 ^ (32 - d)))
+  wide = slots_length s (32 - d) (digits_of d w) ∙ omega (arith, length-digits d (w / 4 ^ (32 - d)))
 
   pub mask : (f : Side → ℕ) → T (every (λ k. ltb (f (side_at k)) 4)) → Shows (slots_of s d w) (λ k. f (side_at k)) (rep (f s) 32)
   mask f t =
@@ -41,5 +41,5 @@ module _ (s : Side) (d w : ℕ) (h : d ≤ 26) where
       let n : d + z ≡ 32 = omega arith in
       let full : 4 ^ d * 4 ^ z ≡ 2 ^ 64 = sym (pow-add 4 d z) ∙ ap (λ (m : ℕ). 4 ^ m) n in
       let few : w / 4 ^ z < 4 ^ d = (div-lt_iff_lt-mul (one-le-pow z 4 (omega arith))).1 (rw full l) in
-      let i : number ds * 4 ^ z ≡ w = rw (number_digits d (w / 4 ^ z)) (omega (arith, div-add-mod' w (4 ^ z))) in
+      let i : number ds * 4 ^ z ≡ w = rw (number-digits d (w / 4 ^ z)) (omega (arith, div-add-mod' w (4 ^ z))) in
       shown wide (λ k. digit_no (digit_at k)) tt (sym (path_word digit_at s refl z ds ∙ rw (digits_at s true ds) i))

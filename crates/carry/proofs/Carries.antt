@@ -15,7 +15,7 @@ use Rattle.geometry.specs.Steps.{stops, replaced, mirror}
 use Rattle.carry.specs.Carries.{digits_of, Carries, Mirrors}
 use Rattle.carry.proofs.Words.{rep}
 use Rattle.carry.proofs.Slots.{Slot, pad, at, side_at}
-use Rattle.carry.proofs.Digits.{path_word, walked_at, walked_at_lem, mirrored_at, mirrored_at_lem}
+use Rattle.carry.proofs.Digits.{path_word, walked_at, map-walked_at, mirrored_at, map-mirrored_at}
 use Rattle.carry.proofs.Shows.{Shows, seen, and, or, xor, not, shr, shl, plus}
 use Rattle.carry.proofs.Aligned.{slots_of, mask, tail_shown, path_shown}
 
@@ -102,7 +102,7 @@ module _ (w : ℕ) where
         let flip = or (and reach (xor low (not rights))) (and (shr reach tt) (not verticals)) in
         let end = seen (xor path flip) (λ k. digit_no (walked_at k)) tt in
         record {
-          arrives = end.is ∙ path_word walked_at s refl (32 - d) (digits_of d w) ∙ rw (walked_at_lem s (digits_of d w));
+          arrives = end.is ∙ path_word walked_at s refl (32 - d) (digits_of d w) ∙ rw (map-walked_at s (digits_of d w));
           over = sum.1;
         }
 
@@ -113,4 +113,4 @@ module _ (w : ℕ) where
       let evens : Shows (slots_of left d w) (λ k. 1) even = mask left d w h (λ s. 1) tt in
       let path = path_shown left d w h l e in
       let end = seen (xor path (shl (and path evens) tt)) (λ k. digit_no (mirrored_at k)) tt in
-      end.is ∙ path_word mirrored_at left refl (32 - d) (digits_of d w) ∙ rw (mirrored_at_lem left true (digits_of d w))
+      end.is ∙ path_word mirrored_at left refl (32 - d) (digits_of d w) ∙ rw (map-mirrored_at left true (digits_of d w))

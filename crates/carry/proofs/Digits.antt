@@ -56,10 +56,10 @@ abbrev pub mirrored_at : Slot → Digit
 mirrored_at (pad s) = d00
 mirrored_at (at s d c) = mirror d
 
-pub mirrored_at_lem : (s : Side) (c : Bool) (ds : List Digit) → map mirrored_at (places s c ds) ≡ map mirror ds
+pub map-mirrored_at : (s : Side) (c : Bool) (ds : List Digit) → map mirrored_at (places s c ds) ≡ map mirror ds
 unfolding places
-mirrored_at_lem s c [] = refl
-mirrored_at_lem s c (d ∷ ds) = ap (◌∷◌ (mirror d)) (mirrored_at_lem s (c && not (stops s d)) ds)
+map-mirrored_at s c [] = refl
+map-mirrored_at s c (d ∷ ds) = ap (◌∷◌ (mirror d)) (map-mirrored_at s (c && not (stops s d)) ds)
 
 abbrev pub walked_at : Slot → Digit
 walked_at (pad s) = d00
@@ -71,10 +71,10 @@ unfolding places
 kept_at s [] = refl
 kept_at s (d ∷ ds) = ap (◌∷◌ d) (kept_at s ds)
 
-pub walked_at_lem : (s : Side) (ds : List Digit) → map walked_at (places s true ds) ≡ walked s ds
+pub map-walked_at : (s : Side) (ds : List Digit) → map walked_at (places s true ds) ≡ walked s ds
 unfolding places walked
-walked_at_lem s [] = refl
-walked_at_lem s (d ∷ ds) = ap (◌∷◌ (replaced s d)) (rest (stops s d) (walked_at_lem s ds))
+map-walked_at s [] = refl
+map-walked_at s (d ∷ ds) = ap (◌∷◌ (replaced s d)) (rest (stops s d) (map-walked_at s ds))
   where
     rest : (b : Bool) → map walked_at (places s true ds) ≡ walked s ds →
         map walked_at (places s (not b) ds) ≡ cond b ds (walked s ds)

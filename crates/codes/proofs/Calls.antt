@@ -15,12 +15,12 @@ use Rattle.refusals.proofs.Answers.{done_differs, done_one}
 use Rattle.geometry.specs.Corners.{Digit, child_corners, corners}
 use Rattle.geometry.specs.Paths.{digit_no, digit_of}
 use Rattle.geometry.specs.Cells.{Cell, depth_of, corner, parent, child, under}
-use Rattle.geometry.proofs.Paths.{digit<4, digit_no_lem}
+use Rattle.geometry.proofs.Paths.{digit<4, digit_of-digit_no}
 use Rattle.codes.specs.Codes.{solid, face, path, depth, joined, Code, cell_of, code_of, Descends}
 use Rattle.codes.specs.Calls.{Checked, Packed, Unpacking, unpacked, not_unpacked, Unpacked, parent_end, ParentOf, child_end, ChildOf, SomeChild}
 use Rattle.codes.proofs.Faults.{faults_single, passed, go_on, code_single, code_passed, code_on}
-use Rattle.codes.proofs.Codes.{formed_back, whole, code_formed, cell_code, code_cell, cell_formed, cell_depth, cell_deep, one_code}
-use Rattle.codes.proofs.Family.{child_code_lem, born}
+use Rattle.codes.proofs.Codes.{formed_back, whole, code_formed, cell_of-code_of, code_of-cell_of, cell_formed, depth_of-cell_of, cell_deep, one_code}
+use Rattle.codes.proofs.Family.{code_of-child, born}
 
 -- one answer
 
@@ -88,29 +88,29 @@ child_done x q y h =
     record { code = a.0; digit = b.0; above = c.0; is = done_one c.1 }
 
 child_cell : {x q y : ℕ} → Child x q y → cell_of y ≡ child (cell_of x) (digit_of q)
-child_cell {x} {q} {y} h = ap cell_of h.is ∙ cell_code (child (cell_of x) (digit_of q)) (cell_formed x h.code) (rw (cell_depth x) h.above)
+child_cell {x} {q} {y} h = ap cell_of h.is ∙ cell_of-code_of (child (cell_of x) (digit_of q)) (cell_formed x h.code) (rw (depth_of-cell_of x) h.above)
 
 child_code_formed : {x q y : ℕ} → Child x q y → Code y
-child_code_formed {x} {q} {y} h = subst Code (sym h.is) (code_formed (child (cell_of x) (digit_of q)) (cell_formed x h.code) (rw (cell_depth x) h.above))
+child_code_formed {x} {q} {y} h = subst Code (sym h.is) (code_formed (child (cell_of x) (digit_of q)) (cell_formed x h.code) (rw (depth_of-cell_of x) h.above))
 
 pub parent_of_child : (x q y : ℕ) → ChildOf x q (done y) → ParentOf y (done x)
 parent_of_child x q y h =
     let c = child_done x q y h in
-    let d : depth y ≡ suc (depth x) = sym (cell_depth y) ∙ ap depth_of (child_cell c) ∙ ap suc (cell_depth x) in
+    let d : depth y ≡ suc (depth x) = sym (depth_of-cell_of y) ∙ ap depth_of (child_cell c) ∙ ap suc (depth_of-cell_of x) in
     code_on refused y (parent_end y) (child_code_formed c)
-    (inr (omega arith, ap done (sym (ap (λ (k : Cell). code_of (parent k)) (child_cell c) ∙ code_cell x c.code))))
+    (inr (omega arith, ap done (sym (ap (λ (k : Cell). code_of (parent k)) (child_cell c) ∙ code_of-cell_of x c.code))))
 
 pub child_of_parent : (x y : ℕ) → ParentOf x (done y) → SomeChild y x
 child_of_parent x y h =
     let a = parent_done x y h in
-    let n : 0 < depth_of (cell_of x) = rw (cell_depth x) a.below in
+    let n : 0 < depth_of (cell_of x) = rw (depth_of-cell_of x) a.below in
     let c = born (cell_of x) n in
     let q : ℕ = digit_no c.digit in
     let k : depth_of (cell_of x) ≡ suc (depth_of (parent (cell_of x))) = ap depth_of c.is in
     let l : depth_of (parent (cell_of x)) ≤ 26 = omega (arith, cell_deep x a.code) in
-    let i : cell_of y ≡ parent (cell_of x) = ap cell_of a.is ∙ cell_code (parent (cell_of x)) (cell_formed x a.code) l in
+    let i : cell_of y ≡ parent (cell_of x) = ap cell_of a.is ∙ cell_of-code_of (parent (cell_of x)) (cell_formed x a.code) l in
     let f : Code y = subst Code (sym a.is) (code_formed (parent (cell_of x)) (cell_formed x a.code) l) in
-    let e : depth y ≡ depth_of (parent (cell_of x)) = sym (cell_depth y) ∙ ap depth_of i in
+    let e : depth y ≡ depth_of (parent (cell_of x)) = sym (depth_of-cell_of y) ∙ ap depth_of i in
     record {
       digit = q;
       is =
@@ -120,20 +120,20 @@ child_of_parent x y h =
             inr (
               omega (arith, cell_deep x a.code),
               ap done
-                  (sym (code_cell x a.code) ∙ ap code_of (c.is ∙ sym (ap (λ (k : Cell). child k (digit_of q)) i ∙ ap (child (parent (cell_of x))) (digit_no_lem c.digit)))),
+                  (sym (code_of-cell_of x a.code) ∙ ap code_of (c.is ∙ sym (ap (λ (k : Cell). child k (digit_of q)) i ∙ ap (child (parent (cell_of x))) (digit_of-digit_no c.digit)))),
             ),
           ));
     }
 
-pub child_corners_lem : (x q y : ℕ) → ChildOf x q (done y) → (p : Corner) → corner (cell_of y) p ≡ child_corners (digit_of q) (corner (cell_of x)) p
+pub corner-child : (x q y : ℕ) → ChildOf x q (done y) → (p : Corner) → corner (cell_of y) p ≡ child_corners (digit_of q) (corner (cell_of x)) p
 unfolding corners
-child_corners_lem x q y h p = ap (λ (c : Cell). corner c p) (child_cell (child_done x q y h))
+corner-child x q y h p = ap (λ (c : Cell). corner c p) (child_cell (child_done x q y h))
 
 -- order
 
 under_after : (c : Cell) (q : Digit) (es : List Digit) → depth_of (under c (q ∷ es)) ≤ 26 → code_of c < code_of (under c (q ∷ es))
-under_after c q [] h = omega (arith, child_code_lem c q h)
-under_after c q (e ∷ es) h = omega (arith, under_after c e es (omega arith), child_code_lem (under c (e ∷ es)) q h)
+under_after c q [] h = omega (arith, code_of-child c q h)
+under_after c q (e ∷ es) h = omega (arith, under_after c e es (omega arith), code_of-child (under c (e ∷ es)) q h)
 
 pub ancestor_before : (x y : ℕ) → Code x → Code y → Descends x y → x < y
 ancestor_before x y a b d = go d.within.digits d.within.inside
@@ -142,4 +142,4 @@ ancestor_before x y a b d = go d.within.digits d.within.inside
     go [] e = absurd (d.other (one_code y x b a e))
     go (q ∷ es) e =
         let l : depth_of (under (cell_of x) (q ∷ es)) ≤ 26 = subst (λ (c : Cell). depth_of c ≤ 26) e (cell_deep y b) in
-        omega (arith, under_after (cell_of x) q es l, code_cell x a, code_cell y b, ap code_of e)
+        omega (arith, under_after (cell_of x) q es l, code_of-cell_of x a, code_of-cell_of y b, ap code_of e)

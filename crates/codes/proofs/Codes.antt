@@ -1,7 +1,7 @@
 -- Well-formed codes, and well-formed cells of depth at most 26, are one and the same.
 --
 --   code_formed, cell_formed == the code of such a cell is well formed, the cell of such a code is
---   cell_code, code_cell     == the cell of a cell's code is the cell, the code of a code's cell is the code
+--   cell_of-code_of, code_of-cell_of     == the cell of a cell's code is the cell, the code of a code's cell is the code
 --   one_code                 == two codes of one cell are one
 --
 -- Assumes nothing.
@@ -12,12 +12,12 @@ use native.Mathlib.Nat.{mul-lt-mul_of_pos_right, mul-div_cancel, mul-mod_left, d
 use native.Mathlib.Omega.{arith}
 use lib.ListN.{length}
 use Rattle.solids.specs.Solids.{solid_no, solid_of}
-use Rattle.solids.proofs.Numbers.{solid_no_lem, no_solid, solid_known, faces_few}
+use Rattle.solids.proofs.Numbers.{solid_of-solid_no, solid_no-solid_of, solid_known, faces_few}
 use Rattle.geometry.specs.Corners.{Digit}
 use Rattle.geometry.specs.Paths.{number, digits}
 use Rattle.geometry.specs.Cells.{Cell, WellFormed, depth_of}
-use Rattle.geometry.proofs.Paths.{length_digits, digits_number, number_digits, number<}
-use Rattle.codes.specs.Codes.{solid, face, path, depth, joined, size, Formed, Code, cell_of, path_of, code_of}
+use Rattle.geometry.proofs.Paths.{length-digits, digits-number, number-digits, number<}
+use Rattle.codes.specs.Codes.{solid, face, path, depth, joined, size, Formed, Code, cell_of, path_bits, code_of}
 use Rattle.codes.proofs.Sizes.{size_pos, size_full}
 
 -- fields side by side are read back
@@ -42,21 +42,21 @@ code_small x c = omega (arith, c.known)
 
 -- from cells to codes
 
-pub path_fits : (ds : List Digit) → length ds ≤ 26 → path_of ds < 2 ^ 52
+pub path_fits : (ds : List Digit) → length ds ≤ 26 → path_bits ds < 2 ^ 52
 path_fits ds h =
-    subst (λ (m : ℕ). path_of ds < m) (size_full (length ds) h) (mul-lt-mul_of_pos_right (number< ds) (size_pos (length ds)))
+    subst (λ (m : ℕ). path_bits ds < m) (size_full (length ds) h) (mul-lt-mul_of_pos_right (number< ds) (size_pos (length ds)))
 
-cell_fields : (c : Cell) → WellFormed c → depth_of c ≤ 26 → Formed (solid_no c.solid) c.face (path_of c.path) (depth_of c)
+cell_fields : (c : Cell) → WellFormed c → depth_of c ≤ 26 → Formed (solid_no c.solid) c.face (path_bits c.path) (depth_of c)
 cell_fields c w h = record {
   known = solid_known c.solid;
-  on = rw (solid_no_lem c.solid) w;
+  on = rw (solid_of-solid_no c.solid) w;
   deep = h;
   tail = (path_fits c.path h, mul-mod_left (number c.path) (size (depth_of c)));
 }
 
 -- the fields of a cell's code
-pub cell_back : (c : Cell) → WellFormed c → depth_of c ≤ 26 → Back (solid_no c.solid) c.face (path_of c.path) (depth_of c)
-cell_back c w h = formed_back (solid_no c.solid) c.face (path_of c.path) (depth_of c) (cell_fields c w h)
+pub cell_back : (c : Cell) → WellFormed c → depth_of c ≤ 26 → Back (solid_no c.solid) c.face (path_bits c.path) (depth_of c)
+cell_back c w h = formed_back (solid_no c.solid) c.face (path_bits c.path) (depth_of c) (cell_fields c w h)
 
 pub code_formed : (c : Cell) → WellFormed c → depth_of c ≤ 26 → Code (code_of c)
 unfolding code_of
@@ -64,12 +64,12 @@ code_formed c w h =
     let b = cell_back c w h in
     rw (b.solid_is, b.face_is, b.path_is, b.depth_is) (cell_fields c w h)
 
-pub cell_code : (c : Cell) → WellFormed c → depth_of c ≤ 26 → cell_of (code_of c) ≡ c
+pub cell_of-code_of : (c : Cell) → WellFormed c → depth_of c ≤ 26 → cell_of (code_of c) ≡ c
 unfolding code_of cell_of
-cell_code c w h =
+cell_of-code_of c w h =
     let b = cell_back c w h in
-    let q : path_of c.path / size (depth_of c) ≡ number c.path = mul-div_cancel (number c.path) (size_pos (depth_of c)) in
-    rw (b.solid_is, b.face_is, b.path_is, b.depth_is, solid_no_lem c.solid, q, digits_number c.path)
+    let q : path_bits c.path / size (depth_of c) ≡ number c.path = mul-div_cancel (number c.path) (size_pos (depth_of c)) in
+    rw (b.solid_is, b.face_is, b.path_is, b.depth_is, solid_of-solid_no c.solid, q, digits-number c.path)
 
 -- from codes to cells
 
@@ -77,24 +77,24 @@ pub cell_formed : (x : ℕ) → Code x → WellFormed (cell_of x)
 unfolding cell_of
 cell_formed x c = c.on
 
-pub cell_depth : (x : ℕ) → depth_of (cell_of x) ≡ depth x
+pub depth_of-cell_of : (x : ℕ) → depth_of (cell_of x) ≡ depth x
 unfolding cell_of
-cell_depth x = length_digits (depth x) (path x / size (depth x))
+depth_of-cell_of x = length-digits (depth x) (path x / size (depth x))
 
 pub cell_deep : (x : ℕ) → Code x → depth_of (cell_of x) ≤ 26
-cell_deep x c = rw (cell_depth x) c.deep
+cell_deep x c = rw (depth_of-cell_of x) c.deep
 
 pub digits_fit : (p d : ℕ) → d ≤ 26 → p < 2 ^ 52 → p / size d < 4 ^ d
 digits_fit p d h l = (div-lt_iff_lt-mul (size_pos d)).1 (subst (λ (m : ℕ). p < m) (sym (size_full d h)) l)
 
-pub code_cell : (x : ℕ) → Code x → code_of (cell_of x) ≡ x
+pub code_of-cell_of : (x : ℕ) → Code x → code_of (cell_of x) ≡ x
 unfolding code_of cell_of
-code_cell x c =
+code_of-cell_of x c =
     let p : ℕ = path x in
     let d : ℕ = depth x in
-    let n : number (digits d (p / size d)) ≡ p / size d = number_digits d (p / size d) (digits_fit p d c.deep c.tail.0) in
+    let n : number (digits d (p / size d)) ≡ p / size d = number-digits d (p / size d) (digits_fit p d c.deep c.tail.0) in
     let m : p / size d * size d ≡ p = omega (arith, div-add-mod' p (size d), c.tail.1) in
-    rw (length_digits d (p / size d), n, m, no_solid (solid x) c.known) (whole x)
+    rw (length-digits d (p / size d), n, m, solid_no-solid_of (solid x) c.known) (whole x)
 
 pub one_code : (x y : ℕ) → Code x → Code y → cell_of x ≡ cell_of y → x ≡ y
-one_code x y a b e = sym (code_cell x a) ∙ ap code_of e ∙ code_cell y b
+one_code x y a b e = sym (code_of-cell_of x a) ∙ ap code_of e ∙ code_of-cell_of y b

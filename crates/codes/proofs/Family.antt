@@ -13,15 +13,15 @@ use Rattle.solids.specs.Solids.{solid_no}
 use Rattle.geometry.specs.Corners.{Digit}
 use Rattle.geometry.specs.Paths.{digit_no, digit_of, number}
 use Rattle.geometry.specs.Cells.{Cell, cell, depth_of, parent, child}
-use Rattle.geometry.proofs.Paths.{digit<4, no_digit}
+use Rattle.geometry.proofs.Paths.{digit<4, digit_no-digit_of}
 use Rattle.codes.specs.Codes.{depth, size, Code, cell_of, code_of}
 use Rattle.codes.proofs.Sizes.{size_pos, size_full, size_suc, place_two}
-use Rattle.codes.proofs.Codes.{code_small, code_formed, code_cell, cell_formed, cell_depth}
+use Rattle.codes.proofs.Codes.{code_small, code_formed, code_of-cell_of, cell_formed, depth_of-cell_of}
 
 -- a child's code
-pub child_code_lem : (c : Cell) (q : Digit) → depth_of c < 26 → code_of (child c q) ≡ code_of c + digit_no q * (32 * size (suc (depth_of c))) + 1
+pub code_of-child : (c : Cell) (q : Digit) → depth_of c < 26 → code_of (child c q) ≡ code_of c + digit_no q * (32 * size (suc (depth_of c))) + 1
 unfolding code_of number
-child_code_lem c q h = omega (arith, ap (λ (m : ℕ). number c.path * m) (size_suc (depth_of c) h))
+code_of-child c q h = omega (arith, ap (λ (m : ℕ). number c.path * m) (size_suc (depth_of c) h))
 
 -- the last digit and the depth cut off, in plain numbers
 cut : (g v q s t p n : ℕ) → s ≡ t * 4 → p * s ≡ 2 ^ 52 → 0 < t → q < 4 → n < 26 →
@@ -68,9 +68,9 @@ cell_cut c h k =
     rw j (ap (λ (x : Cell). code_of x / (32 * size (depth_of (parent c))) * (32 * size (depth_of (parent c))) + depth_of (parent c)) b.is
     ∙ child_cut (parent c) b.digit (omega arith))
 
-pub parent_code_lem : (x : ℕ) → Code x → 0 < depth x →
+pub code_of-parent : (x : ℕ) → Code x → 0 < depth x →
     x / (32 * size (depth x - 1)) * (32 * size (depth x - 1)) + (depth x - 1) ≡ code_of (parent (cell_of x))
-parent_code_lem x c h = rw (code_cell x c, cell_depth x) at (cell_cut (cell_of x) (rw (cell_depth x) c.deep) (rw (cell_depth x) h))
+code_of-parent x c h = rw (code_of-cell_of x c, depth_of-cell_of x) at (cell_cut (cell_of x) (rw (depth_of-cell_of x) c.deep) (rw (depth_of-cell_of x) h))
 
 -- by shifts: the last digit and the depth go out, the parent's depth comes in
 pub parent_bits : (x d : ℕ) → Code x → d ≡ depth x → 0 < d →
@@ -82,7 +82,7 @@ parent_bits x d c e h =
     let l : x / 2 ^ k * 2 ^ k < 2 ^ 64 = omega (arith, div-mul-le_self x (2 ^ k), code_small x c) in
     let s : d - 1 < 2 ^ k = omega (arith, size_pos (d - 1)) in
     ap (λ (m : ℕ). bit_or m (d - 1)) (mod-eq_of_lt l) ∙ or_shifted (x / 2 ^ k) k (d - 1) s
-    ∙ ap (λ (m : ℕ). x / m * m + (d - 1)) p ∙ rw e (parent_code_lem x c (omega arith))
+    ∙ ap (λ (m : ℕ). x / m * m + (d - 1)) p ∙ rw e (code_of-parent x c (omega arith))
 
 -- by shifts: the digit is put in its place, the depth is one more, and nothing wraps
 pub child_bits : (x q d : ℕ) → Code x → q < 4 → d ≡ depth x → d < 26 →
@@ -91,10 +91,10 @@ child_bits x q d c l e h =
     let k : ℕ = 55 - 2 * d in
     let p : 2 ^ k ≡ 32 * size (suc d) = place_two (suc d) k (omega arith) (omega arith) in
     let m : (q * 2 ^ k) % 2 ^ 64 ≡ q * 2 ^ k = shl_exact 2 k 64 l (omega arith) in
-    let n : depth_of (cell_of x) ≡ d = cell_depth x ∙ sym e in
+    let n : depth_of (cell_of x) ≡ d = depth_of-cell_of x ∙ sym e in
     let t : code_of (child (cell_of x) (digit_of q)) ≡ code_of (cell_of x) + digit_no (digit_of q) * (32 * size (suc (depth_of (cell_of x)))) + 1 =
-    child_code_lem (cell_of x) (digit_of q) (omega arith) in
+    code_of-child (cell_of x) (digit_of q) (omega arith) in
     let v : x + (q * 2 ^ k) % 2 ^ 64 + 1 ≡ code_of (child (cell_of x) (digit_of q)) =
-    ap (λ (a : ℕ). x + a + 1) (m ∙ ap (λ (a : ℕ). q * a) p) ∙ sym (rw (code_cell x c, no_digit q l, n) at t) in
+    ap (λ (a : ℕ). x + a + 1) (m ∙ ap (λ (a : ℕ). q * a) p) ∙ sym (rw (code_of-cell_of x c, digit_no-digit_of q l, n) at t) in
     let f : Code (code_of (child (cell_of x) (digit_of q))) = code_formed (child (cell_of x) (digit_of q)) (cell_formed x c) (omega arith) in
     (v, omega (arith, v, code_small (code_of (child (cell_of x) (digit_of q))) f))

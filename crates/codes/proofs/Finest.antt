@@ -8,15 +8,15 @@ use native.Mathlib.Nat.{pow-suc, div-add-mod', div-one, mul-le-mul_right, suc-ad
 use native.Mathlib.Omega.{arith}
 use lib.ListN.{length, length-append}
 use Rattle.solids.specs.Solids.{solid_no, solid_of}
-use Rattle.solids.proofs.Numbers.{no_solid}
+use Rattle.solids.proofs.Numbers.{solid_no-solid_of}
 use Rattle.geometry.specs.Corners.{Digit}
 use Rattle.geometry.specs.Paths.{number, digits}
 use Rattle.geometry.specs.Cells.{Cell, cell}
-use Rattle.geometry.proofs.Paths.{number<, number_digits}
+use Rattle.geometry.proofs.Paths.{number<, number-digits}
 use Rattle.codes.specs.Codes.{solid, face, path, depth, size, Code, cell_of, Within}
 use Rattle.codes.specs.Places.{place, past, code_at}
 use Rattle.codes.proofs.Sizes.{size_full}
-use Rattle.codes.proofs.Codes.{digits_fit, cell_depth}
+use Rattle.codes.proofs.Codes.{digits_fit, depth_of-cell_of}
 
 -- digits of a number in two parts
 digits_split : (m n a r : ℕ) → r < 4 ^ m → digits (m + n) (a * 4 ^ m + r) ≡ digits m r ++ digits n a
@@ -76,7 +76,7 @@ path_number : (x : ℕ) → Code x → number (cell_of x).path * size (depth x) 
 unfolding cell_of
 path_number x c =
     let s : ℕ = size (depth x) in
-    let n : number (digits (depth x) (path x / s)) ≡ path x / s = number_digits (depth x) (path x / s) (digits_fit (path x) (depth x) c.deep c.tail.0) in
+    let n : number (digits (depth x) (path x / s)) ≡ path x / s = number-digits (depth x) (path x / s) (digits_fit (path x) (depth x) c.deep c.tail.0) in
     ap (λ (m : ℕ). m * s) n ∙ omega (arith, div-add-mod' (path x) s, c.tail.1)
 
 -- a place is the face and the path of its codes
@@ -90,12 +90,12 @@ within_place x g c k w =
     let es = w.digits in
     let ds = (cell_of x).path in
     let so : solid_of (solid y) ≡ solid_of (solid x) = ap (λ (z : Cell). z.solid) w.inside in
-    let i : solid y ≡ solid x = sym (no_solid (solid y) k.known) ∙ ap solid_no so ∙ no_solid (solid x) c.known in
+    let i : solid y ≡ solid x = sym (solid_no-solid_of (solid y) k.known) ∙ ap solid_no so ∙ solid_no-solid_of (solid x) c.known in
     let j : face y ≡ face x = ap (λ (z : Cell). z.face) w.inside in
     let l : (cell_of y).path ≡ es ++ ds = ap (λ (z : Cell). z.path) w.inside in
     let e : depth y ≡ 26 = omega arith in
     let n : 26 ≡ length es + depth x =
-    sym e ∙ sym (cell_depth y) ∙ ap length l ∙ length-append es ds ∙ ap (λ (m : ℕ). length es + m) (cell_depth x) in
+    sym e ∙ sym (depth_of-cell_of y) ∙ ap length l ∙ length-append es ds ∙ ap (λ (m : ℕ). length es + m) (depth_of-cell_of x) in
     let z : 4 ^ length es ≡ size (depth x) = let m : length es ≡ 26 - depth x = omega arith in ap (λ (m : ℕ). 4 ^ m) m in
     let u : number (cell_of y).path * 1 ≡ path y = ap (λ (m : ℕ). number (cell_of y).path * size m) (sym e) ∙ path_number y k in
     let v : number (cell_of y).path ≡ number es + 4 ^ length es * number ds = ap number l ∙ number_append es ds in

@@ -11,12 +11,12 @@ use Rattle.solids.proofs.Numbers.{faces_few}
 use Rattle.geometry.specs.Corners.{Digit}
 use Rattle.geometry.specs.Paths.{digit_no, digit_of}
 use Rattle.geometry.specs.Cells.{Cell, depth_of, parent, child}
-use Rattle.geometry.proofs.Paths.{no_digit}
+use Rattle.geometry.proofs.Paths.{digit_no-digit_of}
 use Rattle.codes.specs.Codes.{solid, path, depth, size, Code, cell_of, code_of}
 use Rattle.codes.specs.Places.{place, code_at, CodeOn, child_code, parent_code, last_digit}
 use Rattle.codes.proofs.Sizes.{size_pos, size_full, size_suc}
-use Rattle.codes.proofs.Codes.{code_formed, cell_code, code_cell, cell_formed, cell_depth}
-use Rattle.codes.proofs.Family.{child_code_lem, parent_code_lem}
+use Rattle.codes.proofs.Codes.{code_formed, cell_of-code_of, code_of-cell_of, cell_formed, depth_of-cell_of}
+use Rattle.codes.proofs.Family.{code_of-child, code_of-parent}
 
 -- the places after the last digit, with the face and without
 tail_same : (x : ℕ) → depth x ≤ 26 → place x % size (depth x) ≡ path x % size (depth x)
@@ -53,27 +53,27 @@ pub child_place : (x : ℕ) (q : Digit) → Code x → depth x < 26 → code_of 
 unfolding child_code
 child_place x q c h =
     let e : code_of (child (cell_of x) q) ≡ code_of (cell_of x) + digit_no q * (32 * size (suc (depth_of (cell_of x)))) + 1 =
-    child_code_lem (cell_of x) q (rw (cell_depth x) h) in
-    (rw (code_cell x c, cell_depth x) at e) ∙ rw (add-one (depth x)) (omega arith)
+    code_of-child (cell_of x) q (rw (depth_of-cell_of x) h) in
+    (rw (code_of-cell_of x c, depth_of-cell_of x) at e) ∙ rw (add-one (depth x)) (omega arith)
 
 pub parent_place : (x : ℕ) → Code x → 0 < depth x → code_of (parent (cell_of x)) ≡ parent_code x
 unfolding parent_code
 parent_place x c h =
     let s : ℕ = size (depth x - 1) in
     let d : x / (32 * s) ≡ place x / s = sym (div-div-eq-div-mul x 32 s) in
-    sym (parent_code_lem x c h) ∙ ap (λ (m : ℕ). m * (32 * s) + (depth x - 1)) d
+    sym (code_of-parent x c h) ∙ ap (λ (m : ℕ). m * (32 * s) + (depth x - 1)) d
     ∙ omega (arith, mod-eq-sub-div-mul (place x) s, div-mul-le_self (place x) s)
 
 pub child_cell : (x : ℕ) (q : Digit) → Code x → depth x < 26 → cell_of (child_code x (digit_no q)) ≡ child (cell_of x) q
-child_cell x q c h = ap cell_of (sym (child_place x q c h)) ∙ cell_code (child (cell_of x) q) (cell_formed x c) (rw (cell_depth x) h)
+child_cell x q c h = ap cell_of (sym (child_place x q c h)) ∙ cell_of-code_of (child (cell_of x) q) (cell_formed x c) (rw (depth_of-cell_of x) h)
 
 pub child_formed : (x q : ℕ) → Code x → depth x < 26 → q < 4 → Code (child_code x q)
 child_formed x q c h l =
-    subst (λ (n : ℕ). Code (child_code x n)) (no_digit q l)
-    (subst Code (child_place x (digit_of q) c h) (code_formed (child (cell_of x) (digit_of q)) (cell_formed x c) (rw (cell_depth x) h)))
+    subst (λ (n : ℕ). Code (child_code x n)) (digit_no-digit_of q l)
+    (subst Code (child_place x (digit_of q) c h) (code_formed (child (cell_of x) (digit_of q)) (cell_formed x c) (rw (depth_of-cell_of x) h)))
 
 pub parent_of_child : (x : ℕ) (q : Digit) → Code x → depth x < 26 → code_of (parent (cell_of (child_code x (digit_no q)))) ≡ x
-parent_of_child x q c h = ap (λ (k : Cell). code_of (parent k)) (child_cell x q c h) ∙ code_cell x c
+parent_of_child x q c h = ap (λ (k : Cell). code_of (parent k)) (child_cell x q c h) ∙ code_of-cell_of x c
 
 pub last_of_child : (x q : ℕ) → CodeOn (solid x) x → depth x < 26 → q < 4 → last_digit (child_code x q) ≡ q
 unfolding child_code last_digit

@@ -5,6 +5,7 @@
 --   size d                           == the place value of the last digit at depth d, in a path of 26 digits
 --   Formed s f p d                   == the fields are those of a cell
 --   Code x                           == x is a well-formed code
+--   path_bits ds                     == the 52 bits of a path, its first digit on top
 --   cell_of x, code_of c             == the cell of a code, the code of a cell
 --   Within x y                       == the cell of y is that of x or lies inside it
 --   Descends x y                     == y is another code within x: x is an ancestor of y
@@ -51,11 +52,11 @@ Code x = Formed (solid x) (face x) (path x) (depth x)
 unfoldable pub cell_of : ℕ → Cell
 cell_of x = cell (solid_of (solid x)) (face x) (digits (depth x) (path x / size (depth x)))
 
-abbrev pub path_of : List Digit → ℕ
-path_of ds = number ds * size (length ds)
+abbrev pub path_bits : List Digit → ℕ
+path_bits ds = number ds * size (length ds)
 
 unfoldable pub code_of : Cell → ℕ
-code_of c = joined (solid_no c.solid) c.face (path_of c.path) (depth_of c)
+code_of c = joined (solid_no c.solid) c.face (path_bits c.path) (depth_of c)
 
 pub record Within (x y : ℕ) : Type 0 where
   pub digits : List Digit

@@ -17,7 +17,7 @@ use Rattle.geometry.specs.Corners.{child_corners, corners}
 use Rattle.geometry.specs.Paths.{digit_of, digits}
 use Rattle.geometry.specs.Cells.{Cell, cell, face_corners, corner, child}
 use Rattle.geometry.proofs.Corners.{child_alike, weights_sum}
-use Rattle.geometry.proofs.Paths.{length_digits}
+use Rattle.geometry.proofs.Paths.{length-digits}
 use Rattle.codes.specs.Codes.{solid, face, path, depth, size, Code, cell_of}
 use Rattle.codes.proofs.Sizes.{size_suc, size_two}
 use Rattle.corners.specs.declared.Corners.{Corners}
@@ -40,7 +40,7 @@ bottom x n a e h p = h p ∙ ap (λ (n : ℕ). corner (above x n) p) e
 -- "Weights at depth d sum to 2^d": far below what a number can hold
 pub light : (x n : ℕ) → Code x → n ≤ 26 → (p : Corner) → total (corner (above x n) p) < 2 ^ 63
 light x n c h p =
-    omega (arith, weights_sum (above x n) c.on p, ap (λ (k : ℕ). 2 ^ k) (length_digits n (path x / size n)), pow_mono h)
+    omega (arith, weights_sum (above x n) c.on p, ap (λ (k : ℕ). 2 ^ k) (length-digits n (path x / size n)), pow_mono h)
 
 -- one level down: the next digit leads to a child
 above_more : (x n : ℕ) → n < 26 → above x (n + 1) ≡ child (above x n) (digit_of (path x / size (n + 1) % 4))

@@ -16,37 +16,37 @@ digit<4 d01 = omega arith
 digit<4 d10 = omega arith
 digit<4 d11 = omega arith
 
-pub digit_no_lem : (d : Digit) → digit_of (digit_no d) ≡ d
-digit_no_lem d00 = refl
-digit_no_lem d01 = refl
-digit_no_lem d10 = refl
-digit_no_lem d11 = refl
+pub digit_of-digit_no : (d : Digit) → digit_of (digit_no d) ≡ d
+digit_of-digit_no d00 = refl
+digit_of-digit_no d01 = refl
+digit_of-digit_no d10 = refl
+digit_of-digit_no d11 = refl
 
-pub no_digit : (k : ℕ) → k < 4 → digit_no (digit_of k) ≡ k
-no_digit zero h = refl
-no_digit (suc zero) h = refl
-no_digit (suc (suc zero)) h = refl
-no_digit (suc (suc (suc n))) h = omega arith
+pub digit_no-digit_of : (k : ℕ) → k < 4 → digit_no (digit_of k) ≡ k
+digit_no-digit_of zero h = refl
+digit_no-digit_of (suc zero) h = refl
+digit_no-digit_of (suc (suc zero)) h = refl
+digit_no-digit_of (suc (suc (suc n))) h = omega arith
 
-pub length_digits : (n p : ℕ) → length (digits n p) ≡ n
+pub length-digits : (n p : ℕ) → length (digits n p) ≡ n
 unfolding digits
-length_digits zero p = refl
-length_digits (suc n) p = ap suc (length_digits n (p / 4))
+length-digits zero p = refl
+length-digits (suc n) p = ap suc (length-digits n (p / 4))
 
-pub digits_number : (ds : List Digit) → digits (length ds) (number ds) ≡ ds
+pub digits-number : (ds : List Digit) → digits (length ds) (number ds) ≡ ds
 unfolding digits number
-digits_number [] = refl
-digits_number (d ∷ ds) =
+digits-number [] = refl
+digits-number (d ∷ ds) =
     let m : (digit_no d + 4 * number ds) % 4 ≡ digit_no d = omega (arith, digit<4 d) in
     let q : (digit_no d + 4 * number ds) / 4 ≡ number ds = omega (arith, digit<4 d) in
-    rw (m, q) (ap₂ ◌∷◌ (digit_no_lem d) (digits_number ds))
+    rw (m, q) (ap₂ ◌∷◌ (digit_of-digit_no d) (digits-number ds))
 
-pub number_digits : (n p : ℕ) → p < 4 ^ n → number (digits n p) ≡ p
+pub number-digits : (n p : ℕ) → p < 4 ^ n → number (digits n p) ≡ p
 unfolding digits number
-number_digits zero p h = omega arith
-number_digits (suc n) p h =
-    let m : digit_no (digit_of (p % 4)) ≡ p % 4 = no_digit (p % 4) (omega arith) in
-    omega (arith, m, number_digits n (p / 4) (omega arith))
+number-digits zero p h = omega arith
+number-digits (suc n) p h =
+    let m : digit_no (digit_of (p % 4)) ≡ p % 4 = digit_no-digit_of (p % 4) (omega arith) in
+    omega (arith, m, number-digits n (p / 4) (omega arith))
 
 pub number< : (ds : List Digit) → number ds < 4 ^ length ds
 unfolding number
@@ -55,7 +55,7 @@ number< (d ∷ ds) = omega (arith, digit<4 d, number< ds, pow-suc 4 (length ds))
 
 -- two paths of one length and one number are one
 pub one_path : (xs ys : List Digit) → length xs ≡ length ys → number xs ≡ number ys → xs ≡ ys
-one_path xs ys e f = sym (digits_number xs) ∙ ap₂ digits e f ∙ digits_number ys
+one_path xs ys e f = sym (digits-number xs) ∙ ap₂ digits e f ∙ digits-number ys
 
 -- a digit is two bits
 pub four : (n : ℕ) → 4 ^ n ≡ 2 ^ (2 * n)

@@ -8,7 +8,7 @@ use native.Mathlib.Omega.{arith}
 use Rattle.solids.specs.Triangles.{Side}
 use Rattle.geometry.specs.Paths.{digit_no, digit_of, number, digits}
 use Rattle.geometry.specs.Steps.{stops, replaced, walked, crosses, mirror}
-use Rattle.geometry.proofs.Paths.{number_digits}
+use Rattle.geometry.proofs.Paths.{number-digits}
 
 -- the last digit climbs: it is replaced, and the walk goes on with the rest
 pub walk_climbs : (s : Side) (n p : ℕ) → stops s (digit_of (p % 4)) ≡ false →
@@ -23,7 +23,7 @@ pub walk_stops : (s : Side) (n p : ℕ) → p < 4 ^ suc n → stops s (digit_of 
     (crosses s (digits (suc n) p) ≡ false)
 unfolding digits number walked crosses
 walk_stops s n p h e =
-    let r : number (digits n (p / 4)) ≡ p / 4 = number_digits n (p / 4) (omega arith) in
+    let r : number (digits n (p / 4)) ≡ p / 4 = number-digits n (p / 4) (omega arith) in
     rw e (rw r, refl)
 
 -- over a mirrored seam each digit is mirrored

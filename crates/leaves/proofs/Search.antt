@@ -9,7 +9,7 @@ use lib.ListN.{length, get_or, take, drop, length-drop, take-append-drop}
 use lib.Seq.{get_or-take, length-take-le, take-append-le, drop-append-le}
 use Rattle.geometry.specs.Paths.{digit_of}
 use Rattle.geometry.specs.Cells.{child}
-use Rattle.geometry.proofs.Paths.{no_digit}
+use Rattle.geometry.proofs.Paths.{digit_no-digit_of}
 use Rattle.solids.specs.Solids.{solid_of}
 use Rattle.solids.proofs.Numbers.{faces_few}
 use Rattle.codes.specs.Codes.{solid, depth, size, Code, cell_of, code_of}
@@ -43,7 +43,7 @@ module _ (xs : List ℕ) (n x : ℕ) (h : n ≤ length xs) (a : Ascends (take n 
 
 -- a child, as the code makes it
 pub child_is : (c q r : ℕ) → Code c → depth c < 26 → q < 4 → r ≡ code_of (child (cell_of c) (digit_of q)) → r ≡ child_code c q
-child_is c q r w d l e = e ∙ child_place c (digit_of q) w d ∙ ap (child_code c) (no_digit q l)
+child_is c q r w d l e = e ∙ child_place c (digit_of q) w d ∙ ap (child_code c) (digit_no-digit_of q l)
 
 -- where the first child stands, the others stand after it
 module _ (xs : List ℕ) (n c i : ℕ) (h : n ≤ length xs) (C : Covered (take n xs)) (d : depth c < 26) (l : i < n) (e : get_or xs i 0 ≡ child_code c 0) where

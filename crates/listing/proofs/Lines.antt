@@ -21,7 +21,7 @@ use lib.Seq.{drop-cons, drop-drop, take_at, get_or_at, get_or-drop}
 use Rattle.text.specs.Text.{digits, Put, Reads}
 use Rattle.text.specs.declared.Reading.{Reading}
 use Rattle.text.specs.declared.Reading.TheVariants.{Number, Other}
-use Rattle.text.proofs.Text.{length_digits, put_after}
+use Rattle.text.proofs.Text.{length-digits, put_after}
 use Rattle.listing.specs.Listing.{newline, space, R, C, solid_line, order_line, SolidFirst, OrderFirst, refused_word, width, answer}
 use Rattle.listing.specs.Lines.{OrderIs}
 
@@ -74,7 +74,7 @@ module _ (B : List ℕ) (l c : ℕ) where
     is_parts = o.is ∙ in_parts
 
     pub order_long : 19 ≤ length B
-    order_long = omega (arith, ap length is_parts, length-append (digits 16 16 c) ending, length_digits 16 16 c)
+    order_long = omega (arith, ap length is_parts, length-append (digits 16 16 c) ending, length-digits 16 16 c)
 
     pub order_letter : get_or B 0 0 ≡ l
     order_letter = ap (λ (t : List ℕ). get_or t 0 0) is_parts
@@ -83,10 +83,10 @@ module _ (B : List ℕ) (l c : ℕ) where
     order_space = ap (λ (t : List ℕ). get_or t 1 0) is_parts
 
     pub order_digits : take 16 (drop 2 B) ≡ digits 16 16 c
-    order_digits = ap (λ (t : List ℕ). take 16 (drop 2 t)) is_parts ∙ take_at (digits 16 16 c) ending 16 (length_digits 16 16 c)
+    order_digits = ap (λ (t : List ℕ). take 16 (drop 2 t)) is_parts ∙ take_at (digits 16 16 c) ending 16 (length-digits 16 16 c)
 
     pub order_end : get_or B 18 0 ≡ newline
-    order_end = ap (λ (t : List ℕ). get_or t 18 0) is_parts ∙ get_or_at (digits 16 16 c) newline (drop 19 B) 0 16 (length_digits 16 16 c)
+    order_end = ap (λ (t : List ℕ). get_or t 18 0) is_parts ∙ get_or_at (digits 16 16 c) newline (drop 19 B) 0 16 (length-digits 16 16 c)
 
 pub answer_put : (a b c d : List ℕ) (at m e end number : ℕ) → number ≢ 0 → Put a b at m refused_word → Put b c m e (digits 10 (width number) number) → Put c d e end (newline ∷ []) →
     Put a d at end (answer number)
@@ -104,7 +104,7 @@ pub answer_short : (k : ℕ) → length (answer k) ≤ 11
 answer_short zero = omega arith
 answer_short (suc k) =
     let number = digits 10 (width (suc k)) (suc k) in
-    omega (arith, length-append refused_word (number ++ (newline ∷ [])), length-append number (newline ∷ []), length_digits 10 (width (suc k)) (suc k), width_short (suc k))
+    omega (arith, length-append refused_word (number ++ (newline ∷ [])), length-append number (newline ∷ []), length-digits 10 (width (suc k)) (suc k), width_short (suc k))
 
 -- a line that begins at a place
 module _ (xs : List ℕ) (at : ℕ) where

@@ -62,10 +62,10 @@ unfolding lift_all down path_to
 up_again w e zero h = refl
 up_again w e (suc n) h = ap (lift_all (path_to w n)) (level (down w n) (even_down w e n h)).up ∙ up_again w e n (omega arith)
 
-pub path_length : (w : Weights) (n : ℕ) → length (path_to w n) ≡ n
+pub length-path_to : (w : Weights) (n : ℕ) → length (path_to w n) ≡ n
 unfolding path_to
-path_length w zero = refl
-path_length w (suc n) = ap suc (path_length w n)
+length-path_to w zero = refl
+length-path_to w (suc n) = ap suc (length-path_to w n)
 
 -- the digit chosen is the least whose child has weights for the point
 least_digit : (e : Digit) (w : Weights) → digit_no (lower (lift e w)).digit ≤ digit_no e
@@ -107,7 +107,7 @@ least_path w s (d ∷ ds) h q e = go (less_or_equal (number (path_to w n)) (numb
         digit_no (lower (down w n)).digit + 4 * number (path_to w n) ≤ digit_no d + 4 * number ds
     go (inl a) = omega (arith, digit<4 (lower (down w n)).digit)
     go (inr a) =
-        let i : path_to w n ≡ ds = one_path (path_to w n) ds (path_length w n) a in
+        let i : path_to w n ≡ ds = one_path (path_to w n) ds (length-path_to w n) a in
         let j : lift_all ds (down w n) ≡ w = ap (λ (l : List Digit). lift_all l (down w n)) (sym i) ∙ up_again w s n (omega arith) in
         let k : down w n ≡ lift d q = lift_all_one ds (down w n) (lift d q) (j ∙ sym e) in
         omega (arith, least_digit d q, ap (λ (m : Weights). digit_no (lower m).digit) k)

@@ -16,7 +16,7 @@ use Rattle.geometry.proofs.Faces.{own_weight, no_weight}
 use Rattle.codes.specs.Codes.{size, code_of}
 use Rattle.points.specs.Points.{Weights, sum, down, path_to, weighed, point_of, Holds}
 use Rattle.points.proofs.Lifting.{lift, lift_all, weights_eq}
-use Rattle.points.proofs.Down.{up_again, path_length, least_path}
+use Rattle.points.proofs.Down.{up_again, length-path_to, least_path}
 
 -- a child's corners taken by weights are its parent's taken by the lifted weights
 module _ (P : Triangle) (v : ℕ) (w : Weights) where
@@ -65,4 +65,4 @@ pub reached_least : (so : Solid) (f d : ℕ) (w : Weights) → f < faces so → 
 unfolding code_of
 reached_least so f d w h e l es n k =
     let i : number (path_to w d) ≤ number es = subst (λ (m : ℕ). number (path_to w m) ≤ number es) n (least_path w e es (rw n l) k.by (lifted so f h es w k)) in
-    rw (path_length w d, n) (omega (arith, mul-le-mul_right (size d) i))
+    rw (length-path_to w d, n) (omega (arith, mul-le-mul_right (size d) i))

@@ -6,19 +6,19 @@ use Prim.Native.Nat.{ℕ, ◌+◌, ◌-◌, ◌*◌, ◌%◌, ◌^◌, ◌<◌, 
 use native.Mathlib.Nat.{zero-mod}
 use native.Mathlib.Omega.{arith}
 use Rattle.solids.specs.Solids.{Known, solid_of, faces}
-use Rattle.solids.proofs.Numbers.{no_solid}
+use Rattle.solids.proofs.Numbers.{solid_no-solid_of}
 use Rattle.refusals.specs.Refusals.{SOLID, FACE, DEPTH, POINT, Single}
 use Rattle.refusals.specs.Answers.{done, refused}
 use Rattle.refusals.proofs.Refusals.{need_single, is_single, met}
 use Rattle.refusals.proofs.Answers.{done_differs, done_one}
 use Rattle.geometry.specs.Paths.{number}
 use Rattle.geometry.specs.Cells.{Cell, cell, depth_of}
-use Rattle.codes.specs.Codes.{joined, size, faults, path_of, cell_of, code_of}
+use Rattle.codes.specs.Codes.{joined, size, faults, path_bits, cell_of, code_of}
 use Rattle.codes.proofs.Sizes.{size_two}
-use Rattle.codes.proofs.Codes.{path_fits, cell_back, code_formed, cell_code, code_cell, cell_depth}
+use Rattle.codes.proofs.Codes.{path_fits, cell_back, code_formed, cell_of-code_of, code_of-cell_of, depth_of-cell_of}
 use Rattle.points.specs.Points.{weights, path_to, point_of, Holds}
 use Rattle.points.specs.Located.{found_cell, Located, On, Least}
-use Rattle.points.proofs.Down.{path_length}
+use Rattle.points.proofs.Down.{length-path_to}
 use Rattle.points.proofs.Holds.{reached_holds, reached_least}
 
 module _ (s f t l r d : ℕ) where
@@ -35,17 +35,17 @@ module _ (s f t l r d : ℕ) where
 
   -- the path shifted to the top of its field
   pub found_path : (m : ℕ) → m ≡ number (path_to (weights t l r) d) → d ≤ 26 →
-      ((m * 2 ^ (52 - 2 * d)) % 2 ^ 64 ≡ path_of (path_to (weights t l r) d)) × (path_of (path_to (weights t l r) d) < 2 ^ 52)
+      ((m * 2 ^ (52 - 2 * d)) % 2 ^ 64 ≡ path_bits (path_to (weights t l r) d)) × (path_bits (path_to (weights t l r) d) < 2 ^ 52)
   found_path m e h =
       let p = path_to (weights t l r) d in
-      let n = path_length (weights t l r) d in
-      let q : path_of p < 2 ^ 52 = path_fits p (rw n h) in
-      let i : m * 2 ^ (52 - 2 * d) ≡ path_of p = ap₂ ◌*◌ e (sym (size_two d h) ∙ ap size (sym n)) in
+      let n = length-path_to (weights t l r) d in
+      let q : path_bits p < 2 ^ 52 = path_fits p (rw n h) in
+      let i : m * 2 ^ (52 - 2 * d) ≡ path_bits p = ap₂ ◌*◌ e (sym (size_two d h) ∙ ap size (sym n)) in
       (ap (λ (n : ℕ). n % 2 ^ 64) i ∙ omega arith, q)
 
-  pub found_code : Known s → (m : ℕ) → m ≡ path_of (path_to (weights t l r) d) → joined s f m d ≡ code_of (found_cell s f t l r d)
+  pub found_code : Known s → (m : ℕ) → m ≡ path_bits (path_to (weights t l r) d) → joined s f m d ≡ code_of (found_cell s f t l r d)
   unfolding code_of
-  found_code k m e = rw (no_solid s k, e, path_length (weights t l r) d)
+  found_code k m e = rw (solid_no-solid_of s k, e, length-path_to (weights t l r) d)
 
   -- the reply's code is the least that holds the point
   module _ (k : Known s) (on : f < faces (solid_of s)) (h : d ≤ 26) (e : t + l + r ≡ 2 ^ 26) where
@@ -54,11 +54,11 @@ module _ (s f t l r d : ℕ) where
 
     found_deep : depth_of found ≤ 26
     unfolding found
-    found_deep = rw (path_length (weights t l r) d) h
+    found_deep = rw (length-path_to (weights t l r) d) h
 
-    found_cell_lem : cell_of (code_of found) ≡ found
+    cell_of-found : cell_of (code_of found) ≡ found
     unfolding found
-    found_cell_lem = cell_code (found_cell s f t l r d) on found_deep
+    cell_of-found = cell_of-code_of (found_cell s f t l r d) on found_deep
 
     found_on : On s f d (code_of found)
     unfolding found code_of
@@ -66,9 +66,9 @@ module _ (s f t l r d : ℕ) where
         let b = cell_back (found_cell s f t l r d) on found_deep in
         record {
           code = code_formed (found_cell s f t l r d) on found_deep;
-          solid_is = b.solid_is ∙ no_solid s k;
+          solid_is = b.solid_is ∙ solid_no-solid_of s k;
           face_is = b.face_is;
-          depth_is = b.depth_is ∙ path_length (weights t l r) d;
+          depth_is = b.depth_is ∙ length-path_to (weights t l r) d;
         }
 
     least : (y : ℕ) → On s f d y → Holds (cell_of y) (point_of (solid_of s) f (weights t l r)) → code_of found ≤ y
@@ -77,8 +77,8 @@ module _ (s f t l r d : ℕ) where
         let p = (cell_of y).path in
         let i : cell_of y ≡ cell (solid_of s) f p = ap₂ (λ (m g : ℕ). cell (solid_of m) g p) o.solid_is o.face_is in
         let j : Holds (cell (solid_of s) f p) (point_of (solid_of s) f (weights t l r)) = subst (λ (c : Cell). Holds c (point_of (solid_of s) f (weights t l r))) i q in
-        subst (λ (m : ℕ). code_of (found_cell s f t l r d) ≤ m) (ap code_of (sym i) ∙ code_cell y o.code)
-        (reached_least (solid_of s) f d (weights t l r) on e h p (cell_depth y ∙ o.depth_is) j)
+        subst (λ (m : ℕ). code_of (found_cell s f t l r d) ≤ m) (ap code_of (sym i) ∙ code_of-cell_of y o.code)
+        (reached_least (solid_of s) f d (weights t l r) on e h p (depth_of-cell_of y ∙ o.depth_is) j)
 
   pub located_least : (x : ℕ) → Located s f t l r d (done x) → Least s f d (point_of (solid_of s) f (weights t l r)) x
   unfolding found
@@ -89,6 +89,6 @@ module _ (s f t l r d : ℕ) where
       let e = met (done_differs x POINT (omega arith)) c.1 in
       rw (done_one e.1) (record {
         on = found_on a.0 b.0 c.0 e.0;
-        holds = rw (found_cell_lem a.0 b.0 c.0 e.0) (reached_holds (solid_of s) f d (weights t l r) e.0 c.0);
+        holds = rw (cell_of-found a.0 b.0 c.0 e.0) (reached_holds (solid_of s) f d (weights t l r) e.0 c.0);
         least = least a.0 b.0 c.0 e.0;
       })

@@ -9,7 +9,7 @@ use lib.Pow.{pow_mono}
 use Rattle.geometry.specs.Paths.{digit_no, number}
 use Rattle.geometry.proofs.Paths.{number<}
 use Rattle.points.specs.Points.{Weights, weights, sum, lower, down, path_to}
-use Rattle.points.proofs.Down.{down_sum, path_length}
+use Rattle.points.proofs.Down.{down_sum, length-path_to}
 
 pub record Reached (w : Weights) (n a b c path : ℕ) : Type 0 where
   pub here : weights a b c ≡ down w n
@@ -20,7 +20,7 @@ pub small : (w : Weights) → sum w ≡ 2 ^ 26 → (n a b c path : ℕ) → n �
 small w e n a b c path h k =
     let m : 26 - n ≤ 26 = omega arith in (
       omega (arith, ap sum k.here ∙ down_sum w e n h, pow_mono m),
-      rw k.digits (subst (λ (m : ℕ). number (path_to w n) < 4 ^ m) (path_length w n) (number< (path_to w n))),
+      rw k.digits (subst (λ (m : ℕ). number (path_to w n) < 4 ^ m) (length-path_to w n) (number< (path_to w n))),
       pow-le-pow_right {n = 4} (omega arith) h,
     )
 

@@ -5,17 +5,17 @@ use Prim.Native.Nat.{ℕ, zero, suc, ◌≤◌}
 use native.Mathlib.Omega.{arith}
 use Rattle.solids.specs.Solids.{Solid, tetrahedron, octahedron, icosahedron, Known, solid_no, solid_of, faces}
 
-pub solid_no_lem : (so : Solid) → solid_of (solid_no so) ≡ so
-solid_no_lem tetrahedron = refl
-solid_no_lem octahedron = refl
-solid_no_lem icosahedron = refl
+pub solid_of-solid_no : (so : Solid) → solid_of (solid_no so) ≡ so
+solid_of-solid_no tetrahedron = refl
+solid_of-solid_no octahedron = refl
+solid_of-solid_no icosahedron = refl
 
-pub no_solid : (s : ℕ) → Known s → solid_no (solid_of s) ≡ s
-no_solid zero h = absurd (omega (arith, h.0))
-no_solid (suc zero) h = refl
-no_solid (suc (suc zero)) h = refl
-no_solid (suc (suc (suc zero))) h = refl
-no_solid (suc (suc (suc (suc n)))) h = absurd (omega (arith, h.1))
+pub solid_no-solid_of : (s : ℕ) → Known s → solid_no (solid_of s) ≡ s
+solid_no-solid_of zero h = absurd (omega (arith, h.0))
+solid_no-solid_of (suc zero) h = refl
+solid_no-solid_of (suc (suc zero)) h = refl
+solid_no-solid_of (suc (suc (suc zero))) h = refl
+solid_no-solid_of (suc (suc (suc (suc n)))) h = absurd (omega (arith, h.1))
 
 pub solid_known : (so : Solid) → Known (solid_no so)
 solid_known tetrahedron = (omega arith, omega arith)

@@ -90,11 +90,11 @@ module _ (S Q : ℕ) (step : ℕ → ℕ → ℕ) (N : StepLaws S step) (L : Lis
 
   -- so it is a leaf, and meets a: the leaf at that place is strictly inside the neighbour, and at most one level below a
 
-  abbrev Smaller-at : ℕ → Type 0
-  Smaller-at k = Leaf L k × Meets a s k × (depth k ≡ depth a + 1)
+  abbrev SmallerLeaf : ℕ → Type 0
+  SmallerLeaf k = Leaf L k × Meets a s k × (depth k ≡ depth a + 1)
 
   edge_held : Inner L (step s a) → (m : ℕ) → depth (step s a) < 26 → m < 4 → (p : EdgePlace (child_code (step s a) m)) → Held L p.at →
-      Smaller-at (child_code (step s a) m)
+      SmallerLeaf (child_code (step s a) m)
   edge_held j m d four p f =
       let n = step s a in
       let k = child_code n m in
@@ -113,9 +113,9 @@ module _ (S Q : ℕ) (step : ℕ → ℕ → ℕ) (N : StepLaws S step) (L : Lis
       let v : depth x ≤ depth a + 1 = (E x t a f.is ma (back< s) m₁).0 in
       let e : x ≡ k = in_same x k (common x k g wx (child_cell n m wn d four) (omega arith) f.holds p.inside) (omega arith) in
       let m₂ = meets_back S step N x t a (back< s) wx (leaves_apart S Q L C x a f.is ma ne) m₁ in
-      subst Smaller-at e (f.is, subst (λ (u : ℕ). Meets a u x) (back_back s l) m₂, omega arith)
+      subst SmallerLeaf e (f.is, subst (λ (u : ℕ). Meets a u x) (back_back s l) m₂, omega arith)
 
-  edge_leaf : Inner L (step s a) → (m : ℕ) → depth (step s a) < 26 → OnEdge (back_no s) m → Smaller-at (child_code (step s a) m)
+  edge_leaf : Inner L (step s a) → (m : ℕ) → depth (step s a) < 26 → OnEdge (back_no s) m → SmallerLeaf (child_code (step s a) m)
   edge_leaf j m d on =
       let n = step s a in
       let four = edge_four (back_no s) m on in

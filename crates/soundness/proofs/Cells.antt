@@ -22,14 +22,14 @@ use Rattle.solids.specs.Solids.{solid_of}
 use Rattle.solids.proofs.Numbers.{faces_few}
 use Rattle.geometry.specs.Paths.{digit_no, digit_of}
 use Rattle.geometry.specs.Cells.{Cell, depth_of, parent, child}
-use Rattle.geometry.proofs.Paths.{digit<4, no_digit}
+use Rattle.geometry.proofs.Paths.{digit<4, digit_no-digit_of}
 use Rattle.codes.specs.Codes.{solid, depth, size, Code, cell_of, code_of}
 use Rattle.codes.specs.Places.{place, past, end, CodeOn, child_code, parent_code, last_digit}
 use Rattle.codes.proofs.Sizes.{size_pos, size_full, size_suc}
-use Rattle.codes.proofs.Codes.{cell_code, code_cell, cell_formed, code_formed, cell_depth}
+use Rattle.codes.proofs.Codes.{cell_of-code_of, code_of-cell_of, cell_formed, code_formed, depth_of-cell_of}
 use Rattle.codes.proofs.Family.{born}
 use Rattle.codes.proofs.Places.{code_on_solid, on_solid_code, child_place, parent_place, child_formed, parent_of_child, last_of_child}
-use Rattle.soundness.specs.Regions.{face_of, InFaces}
+use Rattle.soundness.specs.Regions.{face_at, InFaces}
 use Rattle.soundness.specs.Leaves.{Holds, In, Apart}
 
 pub le_or_lt : (m k : ℕ) → (m ≤ k) ⊎ (k < m)
@@ -145,7 +145,7 @@ inq_out Q c g w h i = subst (λ (n : ℕ). Q / 2 ^ (n % 32) % 2 ≡ 1) (face_sam
 
 pub inq_or : (Q g : ℕ) → InFaces Q g ⊎ (InFaces Q g → ⊥)
 unfolding InFaces
-inq_or Q g = eq_or_not (Q / 2 ^ face_of g % 2) 1
+inq_or Q g = eq_or_not (Q / 2 ^ face_at g % 2) 1
 
 -- inside and apart
 
@@ -243,7 +243,7 @@ pub parent_child : {S : ℕ} (c q : ℕ) → CodeOn S c → depth c < 26 → q <
 parent_child {S} c q w h l =
     let k = on_solid_code S c w in
     sym (parent_place (child_code c q) (child_formed c q k h l) (omega (arith, depth_child c q h)))
-    ∙ ap (λ (n : ℕ). code_of (parent (cell_of (child_code c n)))) (sym (no_digit q l)) ∙ parent_of_child c (digit_of q) k h
+    ∙ ap (λ (n : ℕ). code_of (parent (cell_of (child_code c n)))) (sym (digit_no-digit_of q l)) ∙ parent_of_child c (digit_of q) k h
 
 pub last_child : {S : ℕ} (c q : ℕ) → CodeOn S c → depth c < 26 → q < 4 → last_digit (child_code c q) ≡ q
 last_child {S} c q w h l = last_of_child c q (code_on_solid c (on_solid_code S c w)) h l
@@ -259,20 +259,20 @@ pub as_kid : {S : ℕ} (x : ℕ) → CodeOn S x → 0 < depth x → Kid S x
 as_kid {S} x w h =
     let k = on_solid_code S x w in
     let p = parent_code x in
-    let b = born (cell_of x) (rw (cell_depth x) h) in
+    let b = born (cell_of x) (rw (depth_of-cell_of x) h) in
     let q = digit_no b.digit in
     let l : q < 4 = digit<4 b.digit in
     -- the parent's code
     let n : depth_of (cell_of x) ≡ suc (depth_of (parent (cell_of x))) = ap depth_of b.is in
-    let d : depth_of (parent (cell_of x)) < 26 = omega (arith, cell_depth x, w.deep) in
+    let d : depth_of (parent (cell_of x)) < 26 = omega (arith, depth_of-cell_of x, w.deep) in
     let e : code_of (parent (cell_of x)) ≡ p = parent_place x k h in
     let f : Code p = subst Code e (code_formed (parent (cell_of x)) (cell_formed x k) (omega arith)) in
-    let c : cell_of p ≡ parent (cell_of x) = ap cell_of (sym e) ∙ cell_code (parent (cell_of x)) (cell_formed x k) (omega arith) in
-    let u : depth p ≡ depth_of (parent (cell_of x)) = sym (cell_depth p) ∙ ap depth_of c in
+    let c : cell_of p ≡ parent (cell_of x) = ap cell_of (sym e) ∙ cell_of-code_of (parent (cell_of x)) (cell_formed x k) (omega arith) in
+    let u : depth p ≡ depth_of (parent (cell_of x)) = sym (depth_of-cell_of p) ∙ ap depth_of c in
     let deep : depth p < 26 = omega arith in
     -- its child of the digit
     let is : x ≡ child_code p q =
-    sym (code_cell x k) ∙ ap code_of b.is ∙ ap (λ (y : Cell). code_of (child y b.digit)) (sym c) ∙ child_place p b.digit f deep in
+    sym (code_of-cell_of x k) ∙ ap code_of b.is ∙ ap (λ (y : Cell). code_of (child y b.digit)) (sym c) ∙ child_place p b.digit f deep in
     let last : last_digit x ≡ q = ap last_digit is ∙ last_of_child p q (code_on_solid p f) deep l in
     let inside : In x p = subst (λ (y : ℕ). In y p) (sym is) (child_in p q deep l) in
     -- of the same solid
@@ -280,7 +280,7 @@ as_kid {S} x w h =
     let same : solid p ≡ S = omega (arith, past_end p v, size_pos (depth x), w.from, w.below, faces_few (solid_of S), faces_few (solid_of (solid p))) in
     record {
       cell = subst (λ (m : ℕ). CodeOn m p) same v;
-      up = omega (arith, cell_depth x);
+      up = omega (arith, depth_of-cell_of x);
       four = omega arith;
       is = is ∙ ap (child_code p) (sym last);
       inside = inside;

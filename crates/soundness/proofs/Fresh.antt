@@ -26,7 +26,7 @@ use Rattle.solids.proofs.Tests.{below_at}
 use Rattle.codes.specs.Codes.{solid, depth, size}
 use Rattle.codes.specs.Places.{place, past, code_at, base, end, CodeOn}
 use Rattle.codes.proofs.Places.{solid_is}
-use Rattle.soundness.specs.Regions.{face_of, InFaces, all_faces, FaceSet}
+use Rattle.soundness.specs.Regions.{face_at, InFaces, all_faces, FaceSet}
 use Rattle.soundness.specs.Leaves.{Leaf, leaves, pad}
 use Rattle.soundness.specs.Soundness.{Covers, Mesh, Sound}
 use Rattle.soundness.specs.Changes.{faces_from, fresh_leaves}
@@ -36,11 +36,11 @@ use Rattle.soundness.proofs.Tiles.{gap_refl, tiles_wider, tiling_covers}
 
 -- a face and its bit
 
-is_in : (Q g f : ℕ) → face_of g ≡ f → Q / 2 ^ f % 2 ≡ 1 → InFaces Q g
+is_in : (Q g f : ℕ) → face_at g ≡ f → Q / 2 ^ f % 2 ≡ 1 → InFaces Q g
 unfolding InFaces
 is_in Q g f e h = ap (λ (n : ℕ). Q / 2 ^ n % 2) e ∙ h
 
-is_bit : (Q g f : ℕ) → face_of g ≡ f → InFaces Q g → Q / 2 ^ f % 2 ≡ 1
+is_bit : (Q g f : ℕ) → face_at g ≡ f → InFaces Q g → Q / 2 ^ f % 2 ≡ 1
 unfolding InFaces
 is_bit Q g f e h = ap (λ (n : ℕ). Q / 2 ^ n % 2) (sym e) ∙ h
 
@@ -52,8 +52,8 @@ all_faces_bit icosahedron f h = eqb→eq _ 1 (below_at (λ k. eqb (1048575 / 2 ^
 pub all_faces_in : (S g : ℕ) → base S ≤ g → g < end S → InFaces (all_faces S) g
 unfolding all_faces
 all_faces_in S g l k =
-    let f : face_of g < faces (solid_of S) = omega (arith, faces_few (solid_of S)) in
-    is_in (all_faces S) g (face_of g) refl (all_faces_bit (solid_of S) (face_of g) f)
+    let f : face_at g < faces (solid_of S) = omega (arith, faces_few (solid_of S)) in
+    is_in (all_faces S) g (face_at g) refl (all_faces_bit (solid_of S) (face_at g) f)
 
 pub all_faces_set : (S : ℕ) → FaceSet S (all_faces S)
 unfolding all_faces
@@ -96,8 +96,8 @@ module _ (S Q : ℕ) where
   fresh_tiles known (suc k) f a e h p q =
       head (eqb (Q / 2 ^ f % 2) 1) refl (fresh_tiles known k (f + 1) (base S + (f + 1) * 2 ^ 52) e (omega arith) refl (omega arith))
     where
-      face_of_lem : (g : ℕ) → a ≤ g → g < base S + (f + 1) * 2 ^ 52 → face_of g ≡ f
-      face_of_lem g l m = omega (arith, faces_few (solid_of S))
+      on_face : (g : ℕ) → a ≤ g → g < base S + (f + 1) * 2 ^ 52 → face_at g ≡ f
+      on_face g l m = omega (arith, faces_few (solid_of S))
 
       head : (b : Bool) → eqb (Q / 2 ^ f % 2) 1 ≡ b → Tiles S Q (base S + (f + 1) * 2 ^ 52) e (faces_from S Q (f + 1) k) →
           Tiles S Q a e (cond b (face_code S f ∷ []) [] ++ faces_from S Q (f + 1) k)
@@ -106,13 +106,13 @@ module _ (S Q : ℕ) where
             record {
               gap = gap_refl Q a (place x) (omega arith);
               cell = face_cell S f known (omega arith);
-              here = is_in Q (place x) f (face_of_lem (place x) (omega arith) (omega arith)) (eqb-true _ 1 t);
+              here = is_in Q (place x) f (on_face (place x) (omega arith) (omega arith)) (eqb-true _ 1 t);
             },
             tiles_wider S Q (past x) (base S + (f + 1) * 2 ^ 52) e (faces_from S Q (f + 1) k) (gap_refl Q _ _ (face_past S f)) u,
           )
       head false t u =
           tiles_wider S Q a (base S + (f + 1) * 2 ^ 52) e (faces_from S Q (f + 1) k)
-          (record { to = omega arith; none = λ g l m i. eqb-false _ 1 t (is_bit Q g f (face_of_lem g l m) i) }) u
+          (record { to = omega arith; none = λ g l m i. eqb-false _ 1 t (is_bit Q g f (on_face g l m) i) }) u
 
   pub fresh_tiling : Known S → Tiling S Q (fresh_leaves S Q)
   fresh_tiling known = fresh_tiles known (faces (solid_of S)) 0 (base S) (end S) (omega arith) (omega arith) (omega arith)

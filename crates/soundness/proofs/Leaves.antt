@@ -219,14 +219,14 @@ pub leaf_right : (A B : List ℕ) (x : ℕ) → Leaf B x → Leaf (A ++ B) x
 leaf_right [] B x m = m
 leaf_right (y ∷ A) B x m = inr (leaf_right A B x m)
 
-pub take-at_leaf : (L : List ℕ) (i x : ℕ) → Leaf (take i L) x → i ≤ length L → (k : ℕ) × (k < i) × (get_or L k 0 ≡ x)
-take-at_leaf L i x m h =
+pub at_leaf-take : (L : List ℕ) (i x : ℕ) → Leaf (take i L) x → i ≤ length L → (k : ℕ) × (k < i) × (get_or L k 0 ≡ x)
+at_leaf-take L i x m h =
     let r = at_leaf (take i L) x m in
     let l : r.at < i = omega (arith, r.low, length-take-le i L h) in
     (r.at, l, sym (get_or-take i L r.at 0 l) ∙ r.is)
 
-pub drop-at_leaf : (L : List ℕ) (i x : ℕ) → Leaf (drop i L) x → (k : ℕ) × (i ≤ k) × (k < length L) × (get_or L k 0 ≡ x)
-drop-at_leaf L i x m =
+pub at_leaf-drop : (L : List ℕ) (i x : ℕ) → Leaf (drop i L) x → (k : ℕ) × (i ≤ k) × (k < length L) × (get_or L k 0 ≡ x)
+at_leaf-drop L i x m =
     let r = at_leaf (drop i L) x m in
     let l : i + r.at < length L = omega (arith, r.low, length-drop i L) in
     (i + r.at, omega arith, l, sym (get_or-drop i L r.at 0) ∙ r.is)
@@ -266,12 +266,12 @@ module _ (S S' : ℕ) (L : List ℕ) (cells : (x : ℕ) → Leaf L x → CodeOn 
 
   before : (x : ℕ) → Leaf (take i L) x → In x c → ⊥
   before x m n =
-      let r = take-at_leaf L i x m A.upto in
+      let r = at_leaf-take L i x m A.upto in
       omega (arith, r.2, A.less r.0 r.1, (in_range x c (cell_at r.0 x (omega (arith, r.1, A.upto)) r.2) w n).0)
 
   after : (x : ℕ) → Leaf (drop j L) x → In x c → ⊥
   after x m n =
-      let r = drop-at_leaf L j x m in
+      let r = at_leaf-drop L j x m in
       omega (arith, r.3, B.rest r.0 r.1 r.2, (in_range x c (cell_at r.0 x r.2 r.3) w n).1)
 
   pub run_part : under c L ≡ take (j - i) (drop i L)
@@ -292,7 +292,7 @@ module _ (S S' : ℕ) (L : List ℕ) (cells : (x : ℕ) → Leaf L x → CodeOn 
       middle : i ≤ j → (x : ℕ) → Leaf (take (j - i) (drop i L)) x → In x c
       middle ij x m =
           let len : j - i ≤ length (drop i L) = omega (arith, length-drop i L, B.upto) in
-          let r = take-at_leaf (drop i L) (j - i) x m len in
+          let r = at_leaf-take (drop i L) (j - i) x m len in
           let k = i + r.0 in
           let e : get_or L k 0 ≡ x = sym (get_or-drop i L r.0 0) ∙ r.2 in
           let l : k < j = omega (arith, r.1) in

@@ -17,7 +17,7 @@ use Prim.Native.Nat.{ℕ, zero, suc, ◌+◌, ◌%◌, ◌<◌, ◌≤◌}
 use native.Mathlib.Omega.{arith}
 use Rattle.solids.specs.Triangles.{Side, side_of}
 use Rattle.solids.specs.Solids.{solid_no}
-use Rattle.solids.proofs.Numbers.{no_solid}
+use Rattle.solids.proofs.Numbers.{solid_no-solid_of}
 use Rattle.geometry.specs.Neighbours.{Neighbour}
 use Rattle.codes.specs.Codes.{solid, depth, size, Code, cell_of}
 use Rattle.codes.specs.Places.{place, code_at, CodeOn, child_code}
@@ -52,7 +52,7 @@ neighbour_on : (S : ℕ) (s : Side) (x y : ℕ) → CodeOn S x → Code y → Ne
 unfolding cell_of
 neighbour_on S s x y w c n =
     let k = (on_solid_code S x w).known in
-    let e : solid y ≡ solid x = sym (no_solid (solid y) c.known) ∙ ap solid_no n.solid ∙ no_solid (solid x) k in
+    let e : solid y ≡ solid x = sym (solid_no-solid_of (solid y) c.known) ∙ ap solid_no n.solid ∙ solid_no-solid_of (solid x) k in
     subst (λ (T : ℕ). CodeOn T y) (e ∙ solid_is S x w) (code_on_solid y c)
 
 abbrev pub over : (ℕ → ℕ → ℕ) → ℕ → ℕ → ℕ

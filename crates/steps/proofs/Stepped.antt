@@ -4,7 +4,7 @@ use Rattle.std.proofs.Common.{◌≡◌, ℕ, ◌<◌, ◌≤◌, Bool, true, fa
 use lib.ListN.{length-map}
 use Rattle.solids.specs.Triangles.{side_of}
 use Rattle.solids.specs.Solids.{Solid, solid_of, next_face, mirrored}
-use Rattle.solids.proofs.Numbers.{no_solid, faces_few}
+use Rattle.solids.proofs.Numbers.{solid_no-solid_of, faces_few}
 use Rattle.solids.proofs.Seams.{joined}
 use Rattle.refusals.specs.Refusals.{DIRECTION, need, Single}
 use Rattle.refusals.specs.Answers.{done, refused}
@@ -16,9 +16,9 @@ use Rattle.geometry.specs.Neighbours.{Neighbour}
 use Rattle.geometry.proofs.Across.{length-walked}
 use Rattle.geometry.proofs.Neighbours.{neighbour, one_neighbour}
 use Rattle.codes.specs.Codes as codes
-use Rattle.codes.specs.Codes.{solid, face, depth, Code, path_of, cell_of, code_of}
+use Rattle.codes.specs.Codes.{solid, face, depth, Code, path_bits, cell_of, code_of}
 use Rattle.codes.proofs.Faults.{code_single, code_on, code_hand_on, code_passed}
-use Rattle.codes.proofs.Codes.{code_formed, cell_code, cell_formed, cell_depth, cell_deep, one_code}
+use Rattle.codes.proofs.Codes.{code_formed, cell_of-code_of, cell_formed, depth_of-cell_of, cell_deep, one_code}
 use Rattle.steps.specs.Stepped.{step_faults, Arrives, Stepped, step_code}
 
 module _ (x s : ℕ) (c : Code x) where
@@ -28,18 +28,18 @@ module _ (x s : ℕ) (c : Code x) where
   deep : depth_of (step (side_of s) (cell_of x)) ≤ 26
   deep = rw across.depth (cell_deep x c)
 
-  pub step_code_lem : Code (step_code s x)
-  step_code_lem = code_formed (step (side_of s) (cell_of x)) across.well_formed deep
+  pub step_code_is_formed : Code (step_code s x)
+  step_code_is_formed = code_formed (step (side_of s) (cell_of x)) across.well_formed deep
 
-  pub step_cell : cell_of (step_code s x) ≡ step (side_of s) (cell_of x)
-  step_cell = cell_code (step (side_of s) (cell_of x)) across.well_formed deep
+  pub cell_of-step_code : cell_of (step_code s x) ≡ step (side_of s) (cell_of x)
+  cell_of-step_code = cell_of-code_of (step (side_of s) (cell_of x)) across.well_formed deep
 
   pub arrives : Arrives x s (done (step_code s x))
-  arrives = record { number = refl; code = step_code_lem; across = rw step_cell across }
+  arrives = record { number = refl; code = step_code_is_formed; across = rw cell_of-step_code across }
 
   -- a code that is a neighbour is the step's
   pub one_step : (y : ℕ) → Code y → Neighbour (side_of s) (cell_of x) (cell_of y) → y ≡ step_code s x
-  one_step y k n = one_code y (step_code s x) k step_code_lem (one_neighbour (side_of s) (cell_of x) (cell_of y) (cell_formed x c) n ∙ sym step_cell)
+  one_step y k n = one_code y (step_code s x) k step_code_is_formed (one_neighbour (side_of s) (cell_of x) (cell_of y) (cell_formed x c) n ∙ sym cell_of-step_code)
 
   arrives_single : Single (Arrives x s)
   arrives_single a b p q =
@@ -83,25 +83,25 @@ module _ (x s : ℕ) (c : Code x) where
   unfolding step way cell_of
   by_way b m e f = ap₂ (λ (u v : Bool). code_of (moved (way_of u v) (side_of s) (cell_of x))) e f
 
-  pub inside_code : crosses (side_of s) ds ≡ false → step_code s x ≡ codes.joined (solid x) (face x) (path_of (walked (side_of s) ds)) (depth x)
+  pub inside_code : crosses (side_of s) ds ≡ false → step_code s x ≡ codes.joined (solid x) (face x) (path_bits (walked (side_of s) ds)) (depth x)
   unfolding code_of cell_of
   inside_code e =
       by_way false (mirrored so (side_of s) (face x)) e refl
-      ∙ rw (no_solid (solid x) c.known, length-walked (side_of s) ds, cell_depth x)
+      ∙ rw (solid_no-solid_of (solid x) c.known, length-walked (side_of s) ds, depth_of-cell_of x)
 
   pub straight_code : crosses (side_of s) ds ≡ true → mirrored so (side_of s) (face x) ≡ false →
-      step_code s x ≡ codes.joined (solid x) (next_face so (side_of s) (face x)) (path_of (walked (side_of s) ds)) (depth x)
+      step_code s x ≡ codes.joined (solid x) (next_face so (side_of s) (face x)) (path_bits (walked (side_of s) ds)) (depth x)
   unfolding code_of cell_of
   straight_code e f =
       by_way true false e f
-      ∙ rw (no_solid (solid x) c.known, length-walked (side_of s) ds, cell_depth x)
+      ∙ rw (solid_no-solid_of (solid x) c.known, length-walked (side_of s) ds, depth_of-cell_of x)
 
   pub mirrored_code : crosses (side_of s) ds ≡ true → mirrored so (side_of s) (face x) ≡ true →
-      step_code s x ≡ codes.joined (solid x) (next_face so (side_of s) (face x)) (path_of (map mirror ds)) (depth x)
+      step_code s x ≡ codes.joined (solid x) (next_face so (side_of s) (face x)) (path_bits (map mirror ds)) (depth x)
   unfolding code_of cell_of
   mirrored_code e f =
       by_way true true e f
-      ∙ rw (no_solid (solid x) c.known, length-map ds mirror, cell_depth x)
+      ∙ rw (solid_no-solid_of (solid x) c.known, length-map ds mirror, depth_of-cell_of x)
 
   -- the face across a seam fits its field
   pub next_fits : next_face so (side_of s) (face x) < 32

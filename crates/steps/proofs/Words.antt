@@ -9,9 +9,9 @@ use Rattle.geometry.specs.Corners.{Digit}
 use Rattle.geometry.specs.Paths.{number, digits}
 use Rattle.geometry.specs.Steps.{walked, crosses, mirror}
 use Rattle.geometry.proofs.Across.{length-walked}
-use Rattle.codes.specs.Codes.{solid, face, path, depth, joined, size, Code, path_of, cell_of}
+use Rattle.codes.specs.Codes.{solid, face, path, depth, joined, size, Code, path_bits, cell_of}
 use Rattle.codes.proofs.Sizes.{size_two}
-use Rattle.codes.proofs.Codes.{path_fits, digits_fit, cell_depth}
+use Rattle.codes.proofs.Codes.{path_fits, digits_fit, depth_of-cell_of}
 use Rattle.carry.specs.Carries.{digits_of, word_of, Carries, Mirrors}
 use Rattle.walk.specs.Walks.{Walks}
 use Rattle.steps.specs.Stepped.{step_code}
@@ -26,7 +26,7 @@ word_size d h =
     let e : 32 - d ≡ (26 - d) + 6 = omega arith in
     ap (λ (n : ℕ). 4 ^ n) e ∙ pow-add 4 (26 - d) 6
 
-word_path : (d : ℕ) (ds : List Digit) → d ≤ 26 → length ds ≡ d → word_of d ds ≡ path_of ds * 2 ^ 12
+word_path : (d : ℕ) (ds : List Digit) → d ≤ 26 → length ds ≡ d → word_of d ds ≡ path_bits ds * 2 ^ 12
 word_path d ds h e =
     ap (λ (m : ℕ). number ds * m) (word_size d h) ∙ sym (mul_assoc (number ds) (size d) (2 ^ 12))
     ∙ ap (λ (m : ℕ). number ds * size m * 2 ^ 12) (sym e)
@@ -50,9 +50,9 @@ module _ (x w : ℕ) (c : Code x) (e : w ≡ path x * 2 ^ 12) where
 
 module _ (x s : ℕ) (c : Code x) where
   walked_depth : length (walked (side_of s) (cell_of x).path) ≡ depth x
-  walked_depth = length-walked (side_of s) (cell_of x).path ∙ cell_depth x
+  walked_depth = length-walked (side_of s) (cell_of x).path ∙ depth_of-cell_of x
 
-  walked_word : word_of (depth x) (walked (side_of s) (cell_of x).path) ≡ path_of (walked (side_of s) (cell_of x).path) * 2 ^ 12
+  walked_word : word_of (depth x) (walked (side_of s) (cell_of x).path) ≡ path_bits (walked (side_of s) (cell_of x).path) * 2 ^ 12
   walked_word = word_path (depth x) (walked (side_of s) (cell_of x).path) c.deep walked_depth
 
   pub over_carried : (d w p : ℕ) (lost : Bool) → d ≡ depth x → w ≡ path x * 2 ^ 12 → Carries (side_of s) d w p lost → Over x s p lost
@@ -71,9 +71,9 @@ module _ (x s : ℕ) (c : Code x) where
       let z : 2 ^ (52 - 2 * d) ≡ size (depth x) = ap (λ (n : ℕ). 2 ^ (52 - 2 * n)) e ∙ sym (size_two (depth x) c.deep) in
       let i : digits d (q / 2 ^ (52 - 2 * d)) ≡ (cell_of x).path = ap₂ digits e (ap₂ ◌/◌ f z) in
       let v : r ≡ number ds = k.path ∙ ap (λ (l : List Digit). number (walked (side_of s) l)) i in
-      let u : r * 2 ^ (52 - 2 * d) ≡ path_of ds = ap₂ ◌*◌ v (z ∙ ap size (sym walked_depth)) in
-      let l : path_of ds < 2 ^ 52 = path_fits ds (rw walked_depth c.deep) in
-      let m : path_of ds % 2 ^ 64 * 2 ^ 12 % 2 ^ 64 ≡ path_of ds * 2 ^ 12 = omega arith in
+      let u : r * 2 ^ (52 - 2 * d) ≡ path_bits ds = ap₂ ◌*◌ v (z ∙ ap size (sym walked_depth)) in
+      let l : path_bits ds < 2 ^ 52 = path_fits ds (rw walked_depth c.deep) in
+      let m : path_bits ds % 2 ^ 64 * 2 ^ 12 % 2 ^ 64 ≡ path_bits ds * 2 ^ 12 = omega arith in
       record {
         path = ap (λ (n : ℕ). n % 2 ^ 64 * 2 ^ 12 % 2 ^ 64) u ∙ m ∙ sym walked_word;
         flag = k.over ∙ ap (crosses (side_of s)) i;
@@ -90,7 +90,7 @@ module _ (x s : ℕ) (c : Code x) where
   pub over_tidy : {w : ℕ} {b : Bool} → Over x s w b → w % 2 ^ 12 ≡ 0
   over_tidy o = omega (arith, o.path ∙ walked_word)
 
-  over_path : {w : ℕ} {b : Bool} → Over x s w b → w / 2 ^ 12 ≡ path_of (walked (side_of s) (cell_of x).path)
+  over_path : {w : ℕ} {b : Bool} → Over x s w b → w / 2 ^ 12 ≡ path_bits (walked (side_of s) (cell_of x).path)
   over_path o = omega (arith, o.path ∙ walked_word)
 
   -- the neighbour's code: inside the face, over a straight seam, over a mirrored one
@@ -104,27 +104,27 @@ module _ (x s : ℕ) (c : Code x) where
       ap (λ (p : ℕ). joined (solid x) (next_face (solid_of (solid x)) (side_of s) (face x)) p (depth x)) (over_path o)
       ∙ sym (straight_code x s c (sym o.flag) m)
 
-  pub mirrored_word : (w p : ℕ) → w ≡ path x * 2 ^ 12 → Mirrors w p → p ≡ path_of (map mirror (cell_of x).path) * 2 ^ 12
+  pub mirrored_word : (w p : ℕ) → w ≡ path x * 2 ^ 12 → Mirrors w p → p ≡ path_bits (map mirror (cell_of x).path) * 2 ^ 12
   mirrored_word w p e k =
       k (depth x) c.deep (aligned x w c e) ∙ ap (λ (l : List Digit). word_of (depth x) (map mirror l)) (digits_same x w c e)
-      ∙ word_path (depth x) (map mirror (cell_of x).path) c.deep (length-map (cell_of x).path mirror ∙ cell_depth x)
+      ∙ word_path (depth x) (map mirror (cell_of x).path) c.deep (length-map (cell_of x).path mirror ∙ depth_of-cell_of x)
 
   go_mirrored : {w : ℕ} → Over x s w true → mirrored (solid_of (solid x)) (side_of s) (face x) ≡ true →
-      (p : ℕ) → p ≡ path_of (map mirror (cell_of x).path) * 2 ^ 12 →
+      (p : ℕ) → p ≡ path_bits (map mirror (cell_of x).path) * 2 ^ 12 →
       joined (solid x) (next_face (solid_of (solid x)) (side_of s) (face x)) (p / 2 ^ 12) (depth x) ≡ step_code s x
   go_mirrored o m p q =
-      let e : p / 2 ^ 12 ≡ path_of (map mirror (cell_of x).path) = omega arith in
+      let e : p / 2 ^ 12 ≡ path_bits (map mirror (cell_of x).path) = omega arith in
       ap (λ (n : ℕ). joined (solid x) (next_face (solid_of (solid x)) (side_of s) (face x)) n (depth x)) e
       ∙ sym (mirrored_code x s c (sym o.flag) m)
 
   -- over a seam of either kind
 
-  pub over_chosen : (m : Bool) {w p : ℕ} {b : Bool} → Over x s w b → p ≡ path_of (map mirror (cell_of x).path) * 2 ^ 12 → cond m p w % 2 ^ 12 ≡ 0
+  pub over_chosen : (m : Bool) {w p : ℕ} {b : Bool} → Over x s w b → p ≡ path_bits (map mirror (cell_of x).path) * 2 ^ 12 → cond m p w % 2 ^ 12 ≡ 0
   over_chosen true o q = omega arith
   over_chosen false o q = over_tidy o
 
   pub go_over : (m : Bool) {w p : ℕ} → Over x s w true → m ≡ mirrored (solid_of (solid x)) (side_of s) (face x) →
-      p ≡ path_of (map mirror (cell_of x).path) * 2 ^ 12 →
+      p ≡ path_bits (map mirror (cell_of x).path) * 2 ^ 12 →
       joined (solid x) (next_face (solid_of (solid x)) (side_of s) (face x)) (cond m p w / 2 ^ 12) (depth x) ≡ step_code s x
   go_over true {w} {p} o e q = go_mirrored o (sym e) p q
   go_over false o e q = go_straight o (sym e)

@@ -50,10 +50,10 @@ put_within {a} {b} {at} {end} {t} p h =
 pub put_none : (a : List ℕ) (at : ℕ) → Put a a at at []
 put_none a at = record { ends = omega arith; reads = sym (append-nil (take at a)) }
 
-pub length_digits : (b k n : ℕ) → length (digits b k n) ≡ k
+pub length-digits : (b k n : ℕ) → length (digits b k n) ≡ k
 unfolding digits
-length_digits b zero n = refl
-length_digits b (suc k) n = omega (arith, length-append (digits b k (n / b)) (glyph (n % b) ∷ []), length_digits b k (n / b))
+length-digits b zero n = refl
+length-digits b (suc k) n = omega (arith, length-append (digits b k (n / b)) (glyph (n % b) ∷ []), length-digits b k (n / b))
 
 -- the digit at place i - 1 is put in, and those from i on stand there
 module _ (page : List ℕ) (b k n at i rest : ℕ) (some : 0 < i) (upto : i ≤ k) (room : at + k ≤ length page) where
@@ -89,7 +89,7 @@ digits_end page₀ page b k n at i rest z f e =
     ∙ ap (λ (j : ℕ). digits b j rest ++ take (k - i) (drop (at + i) page)) z
     ∙ ap₂ (λ (x y : ℕ). take x (drop y page)) m a in
     record {
-      ends = omega (arith, length_digits b k n);
+      ends = omega (arith, length-digits b k n);
       reads = take-add at k page ∙ ap₂ (λ (s t : List ℕ). s ++ t) f (sym whole);
     }
 
@@ -161,10 +161,10 @@ digit_shows (suc k) n i h = go (dec_le (suc i) k) (λ l. digit_shows k (n / 16) 
     front = digits 16 k (n / 16)
 
     go : Dec (suc i ≤ k) → (i < k → Shown (get_or front i 0)) → Shown (get_or (digits 16 (suc k) n) i 0)
-    go (yes l) f = subst Shown (sym (get_or-append front (glyph (n % 16) ∷ []) 0 i (omega (arith, l, length_digits 16 k (n / 16))))) (f l)
+    go (yes l) f = subst Shown (sym (get_or-append front (glyph (n % 16) ∷ []) 0 i (omega (arith, l, length-digits 16 k (n / 16))))) (f l)
     go (no l) f = record {
       digit = n % 16;
-      shows = (omega arith, get_or_at front (glyph (n % 16)) [] 0 i (omega (arith, l, h, length_digits 16 k (n / 16))));
+      shows = (omega arith, get_or_at front (glyph (n % 16)) [] 0 i (omega (arith, l, h, length-digits 16 k (n / 16))));
     }
 
 pub read_other : (bytes : List ℕ) (at k i : ℕ) → i < k → ((d : ℕ) → Shows (get_or bytes (at + i) 0) d → ⊥) → (n : ℕ) → take k (drop at bytes) ≡ digits 16 k n → ⊥
@@ -202,7 +202,7 @@ pub digits_one : (k m n : ℕ) → m < 16 ^ k → n < 16 ^ k → digits 16 k m �
 unfolding digits
 digits_one zero m n h l e = omega (arith, h, l)
 digits_one (suc k) m n h l e =
-    let same : length (digits 16 k (m / 16)) ≡ length (digits 16 k (n / 16)) = length_digits 16 k (m / 16) ∙ sym (length_digits 16 k (n / 16)) in
+    let same : length (digits 16 k (m / 16)) ≡ length (digits 16 k (n / 16)) = length-digits 16 k (m / 16) ∙ sym (length-digits 16 k (n / 16)) in
     let front = snoc_front (digits 16 k (m / 16)) (digits 16 k (n / 16)) (glyph (m % 16)) (glyph (n % 16)) same e in
     let last = snoc_last (digits 16 k (m / 16)) (digits 16 k (n / 16)) (glyph (m % 16)) (glyph (n % 16)) same e in
     let q : m / 16 ≡ n / 16 = digits_one k (m / 16) (n / 16) (omega (arith, h, pow-suc 16 k)) (omega (arith, l, pow-suc 16 k)) front in

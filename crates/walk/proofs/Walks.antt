@@ -7,12 +7,12 @@ use lib.ListN.{length}
 use Rattle.solids.specs.Triangles.{side_of}
 use Rattle.geometry.specs.Paths.{digits}
 use Rattle.geometry.specs.Steps.{walked}
-use Rattle.geometry.proofs.Paths.{number<, length_digits}
+use Rattle.geometry.proofs.Paths.{number<, length-digits}
 use Rattle.geometry.proofs.Across.{length-walked}
 use Rattle.walk.specs.Walks.{Walks}
 
 pub walk_fits : {s p d r : ℕ} {x : Bool} → Walks s p d r x → r < 4 ^ d
 walk_fits {s} {p} {d} w =
     let ds = walked (side_of s) (digits d p) in
-    let n : length ds ≡ d = length-walked (side_of s) (digits d p) ∙ length_digits d p in
+    let n : length ds ≡ d = length-walked (side_of s) (digits d p) ∙ length-digits d p in
     rw w.path (rw n at (number< ds))

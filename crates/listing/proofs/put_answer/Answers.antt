@@ -1,7 +1,7 @@
 -- Nothing, or the word, the number and the end of the line, one after the other.
 -- Assumes nothing.
 use native.Mathlib.Omega.{arith}
-use Rattle.text.proofs.Text.{length_digits}
+use Rattle.text.proofs.Text.{length-digits}
 use Rattle.listing.proofs.Lines.{width_short}
 use Rattle.listing.proofs.put_answer.Goals as goal
 
@@ -11,4 +11,4 @@ put-requires c =
     let w = c.width in
     let p = c.put-word in
     let number = c.args.number in
-    omega (arith, p.ensures.ends, w.ensures, width_short number, q.ensures.ends, length_digits 10 w.result number)
+    omega (arith, p.ensures.ends, w.ensures, width_short number, q.ensures.ends, length-digits 10 w.result number)

@@ -1,4 +1,4 @@
--- What has been read fits, and the buffer keeps its length.
+-- What has been read lies in the buffer.
 -- Assumes nothing.
 use Rattle.std.proofs.Common.{length, ◌-◌, ◌≤◌}
 use Rattle.meshlist.proofs.read_full.Given as goal

@@ -4,7 +4,7 @@ use Rattle.std.proofs.Common.{◌≡◌, ℕ, ◌*◌, ◌/◌, ◌^◌, ◌<◌
 use Rattle.solids.specs.Solids.{solid_of, next_face, mirrored}
 use Rattle.solids.specs.Triangles.{side_of}
 use Rattle.geometry.specs.Steps.{mirror}
-use Rattle.codes.specs.Codes.{solid, depth, joined, face, path_of, cell_of}
+use Rattle.codes.specs.Codes.{solid, depth, joined, face, path_bits, cell_of}
 use Rattle.steps.proofs.Stepped.{next_fits}
 use Rattle.steps.proofs.Words.{over_chosen, go_over, mirrored_word}
 use Rattle.steps.proofs.over_seam.Goals as goal
@@ -22,7 +22,7 @@ told b =
     rw (b.solid_of-solid.ensures, b.face_of-face.ensures) at b.is_mirrored.ensures
 
 -- the mirrored path
-turned : (m : After-mirror-turned) → m.mirror-turned.result ≡ path_of (map mirror (cell_of m.args.code).path) * 2 ^ 12
+turned : (m : After-mirror-turned) → m.mirror-turned.result ≡ path_bits (map mirror (cell_of m.args.code).path) * 2 ^ 12
 turned m =
     mirrored_word m.args.code m.args.side m.requires.0 m.word_of.result m.mirror-turned.result m.word_of.ensures m.mirror-turned.ensures
 

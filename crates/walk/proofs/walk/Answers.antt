@@ -1,5 +1,5 @@
 -- At a digit that stops the walk ends, with the rest as it was; at one that climbs the loop goes on with the rest; when no
--- digit is left the walk has passed the first one. The measure is the number of digits left.
+-- digit is left the walk has passed the first one.
 -- Assumes nothing.
 use mathlib.Core.Path.{◌≡◌}
 use Prim.Native.Nat.{◌%◌}
