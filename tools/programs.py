@@ -2,7 +2,7 @@
 """Writes the programs over std, and the crate that C links.
 
 usage: python3 tools/programs.py        at the top of the repository, once, after port.py and respell.py; then `rt fmt` in each crate it names.
-       It is for the text that they leave alone
+       It is for that text alone
 
 - The functions of a program that print take the runtime first and hand a failed write up; `main` returns it.
 - show and meshlist stand on std alone, in crates.txt too.

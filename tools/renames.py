@@ -1,17 +1,19 @@
 #!/usr/bin/env python3
-"""Gives names that respell.py leaves with another sense, or with none, names of what they say.
+"""Gives names that port.py and respell.py leave with another sense, or with none, names of what they say.
 
 usage: python3 tools/renames.py        at the top of the repository, once, after port.py, respell.py and `rt fmt`
 
 A row of ROWS is a crate that declares the name, the name, and the new one. Two are definitions: they had come to be spelled like a
-function that does something else to a number (`path_of` reads a code, `face_of` too). The others are lemmas: a lemma has the name
-of its equation's left side, the outer function first, with a dash between two names. A name turns in the .antt files of its crate
-and in those that import it from there; a name behind a point is one that Rattle makes, and stays.
+function that does something else to a number (`path_of` reads a code, `face_of` too). The others are lemmas: an equation has the
+name of its left side, the outer function first, with a dash between two names. A name turns in the .antt files of its crate and in
+those that import it from there; a name behind a point is one that Rattle makes, and stays.
 """
 
 import glob
 import re
 import sys
+
+from respell import aligned
 
 TOKEN = r"(?<![^\s(){}.;,@\"«»\[\]])(?<!\.)[^\s(){}.;,@\"«»\[\]]+"
 ROWS = [
@@ -31,7 +33,7 @@ ROWS = [
     ("codes", "code_cell", "code_of-cell_of"),
     ("codes", "cell_depth", "depth_of-cell_of"),
     ("codes", "child_code_lem", "code_of-child"),
-    ("codes", "parent_code_lem", "code_of-parent"),
+    ("codes", "parent_code_lem", "code_cut"),
     ("codes", "child_corners_lem", "corner-child"),
     ("points", "path_length", "length-path_to"),
     ("points", "found_cell_lem", "cell_of-found"),
@@ -39,7 +41,7 @@ ROWS = [
     ("carry", "walked_at_lem", "map-walked_at"),
     ("steps", "step_code_lem", "step_code_is_formed"),
     ("steps", "step_cell", "cell_of-step_code"),
-    ("soundness", "face_of_lem", "on_face"),
+    ("soundness", "face_of_lem", "face_at_lem"),
     ("soundness", "take-at_leaf", "at_leaf-take"),
     ("soundness", "drop-at_leaf", "at_leaf-drop"),
     ("soundness", "Smaller-at", "SmallerLeaf"),
@@ -70,7 +72,7 @@ def main():
     for path, text in texts.items():
         if text != was[path]:
             with open(path, "w", encoding="utf-8") as f:
-                f.write(text)
+                f.write(aligned(text))
     return 0
 
 

@@ -6,7 +6,7 @@ usage: python3 tools/respell.py [--check]        at the top of the repository, o
 It goes through specs/ and proofs/ of each crate, the ghost parts of src/ (clauses, ghost items, ghost imports) and the texts of
 must-fail/*.edit. A name turns if the repository declares it in an .antt file (a definition, a lemma, a field, a local name) and it has
 a capital inside or a dash: childCorners -> child_corners, put-more -> put_more, NOT-LEAF -> NOT_LEAF. A dash stays where it joins the name
-of a word of the library, of a type or of an operator to another name: length-digits, Known-has, length-⊕. What a file imports from the
+of a word of the library, of a type or of an operator to another name: length-pad, total-⊕. What a file imports from the
 library keeps its spelling there. Functions of src/, strings, inputs and outputs keep their names.
 --check writes nothing and says what would turn. Exit status 1 where two names would fall together: give one of them a row in BY_HAND.
 It is for the text that port.py leaves, and stops where an Answers.antt of a function tells that the port is past that.

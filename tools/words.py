@@ -10,13 +10,13 @@ stand as often as its row says. Each new word is the older one by definition, in
     slice_index xs i = get_or xs i 0       slice_index_or = get_or     slice_range xs a b = take (b - a) (drop a xs)
 
 The lemmas of proofs/ keep the older words, as the library's lemmas do.
---table prints the rows for docs/PORT.md.
+--table prints the rows for docs/PORT.md, in a repository that it has turned.
 """
 
 import re
 import sys
 
-WORDS = ["cond", "eqb", "ltb", "leb", "get_or", "take", "drop", "if◌then◌else◌", "◌==◌", "nat_eq", "nat_lt", "nat_le", "slice_index", "slice_index_or", "slice_range"]
+WORDS = ["cond", "eqb", "ltb", "leb", "get_or", "take", "drop", "◌-◌", "if◌then◌else◌", "◌==◌", "nat_eq", "nat_lt", "nat_le", "slice_index", "slice_index_or", "slice_range"]
 ROWS = [
     ("solids/specs/Solids.antt", "get_or (face_list so) f (face 0 0 0)", "slice_index_or (face_list so) f (face 0 0 0)"),
     ("solids/specs/Solids.antt", "get_or (next_row so s) f 0", "slice_index (next_row so s) f"),
@@ -90,11 +90,27 @@ def imported(path, text):
     return IMPORT.sub(one, text, count=1)
 
 
+def where(path, new):
+    """The definitions, fields or functions in which the new text of a row stands."""
+    with open("crates/" + path, encoding="utf-8") as f:
+        text = f.read()
+    names = []
+    for m in re.finditer(re.escape(new), text):
+        before = text[: m.start()]
+        if path.endswith(".rt"):
+            names.append(re.findall(r"\bfn (\w+)", before)[-1])
+        else:
+            top = re.findall(r"(?m)^(?:pub record )?([^\s-]\S*)", before + new)[-1]
+            field = re.search(r"(?m)^  pub (\w+) :[^\n]*\Z", before)
+            names.append(f"{top}.{field.group(1)}" if field else top)
+    return ", ".join(f"`{it}`" for it in dict.fromkeys(names))
+
+
 def main():
     if "--table" in sys.argv[1:]:
         for path, old, new in ROWS:
             if "/must-fail/" not in path:
-                print(f"| {path.rsplit('.', 1)[0]} | `{old.strip()}` | `{new.strip()}` |")
+                print("| " + " | ".join(it.strip().replace("|", "\\|") for it in (f"{path.rsplit('.', 1)[0]}, {where(path, new)}", f"`{old.strip()}`", f"`{new.strip()}`")) + " |")
         return 0
     texts = {}
     for path, old, new in ROWS:

@@ -1,8 +1,8 @@
 -- Well-formed codes, and well-formed cells of depth at most 26, are one and the same.
 --
---   code_formed, cell_formed == the code of such a cell is well formed, the cell of such a code is
---   cell_of-code_of, code_of-cell_of     == the cell of a cell's code is the cell, the code of a code's cell is the code
---   one_code                 == two codes of one cell are one
+--   code_formed, cell_formed         == the code of such a cell is well formed, the cell of such a code is
+--   cell_of-code_of, code_of-cell_of == the cell of a cell's code is the cell, the code of a code's cell is the code
+--   one_code                         == two codes of one cell are one
 --
 -- Assumes nothing.
 use mathlib.Core.List.{List}

@@ -68,9 +68,9 @@ cell_cut c h k =
     rw j (ap (λ (x : Cell). code_of x / (32 * size (depth_of (parent c))) * (32 * size (depth_of (parent c))) + depth_of (parent c)) b.is
     ∙ child_cut (parent c) b.digit (omega arith))
 
-pub code_of-parent : (x : ℕ) → Code x → 0 < depth x →
+pub code_cut : (x : ℕ) → Code x → 0 < depth x →
     x / (32 * size (depth x - 1)) * (32 * size (depth x - 1)) + (depth x - 1) ≡ code_of (parent (cell_of x))
-code_of-parent x c h = rw (code_of-cell_of x c, depth_of-cell_of x) at (cell_cut (cell_of x) (rw (depth_of-cell_of x) c.deep) (rw (depth_of-cell_of x) h))
+code_cut x c h = rw (code_of-cell_of x c, depth_of-cell_of x) at (cell_cut (cell_of x) (rw (depth_of-cell_of x) c.deep) (rw (depth_of-cell_of x) h))
 
 -- by shifts: the last digit and the depth go out, the parent's depth comes in
 pub parent_bits : (x d : ℕ) → Code x → d ≡ depth x → 0 < d →
@@ -82,7 +82,7 @@ parent_bits x d c e h =
     let l : x / 2 ^ k * 2 ^ k < 2 ^ 64 = omega (arith, div-mul-le_self x (2 ^ k), code_small x c) in
     let s : d - 1 < 2 ^ k = omega (arith, size_pos (d - 1)) in
     ap (λ (m : ℕ). bit_or m (d - 1)) (mod-eq_of_lt l) ∙ or_shifted (x / 2 ^ k) k (d - 1) s
-    ∙ ap (λ (m : ℕ). x / m * m + (d - 1)) p ∙ rw e (code_of-parent x c (omega arith))
+    ∙ ap (λ (m : ℕ). x / m * m + (d - 1)) p ∙ rw e (code_cut x c (omega arith))
 
 -- by shifts: the digit is put in its place, the depth is one more, and nothing wraps
 pub child_bits : (x q d : ℕ) → Code x → q < 4 → d ≡ depth x → d < 26 →

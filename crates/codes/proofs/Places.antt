@@ -16,7 +16,7 @@ use Rattle.codes.specs.Codes.{solid, path, depth, size, Code, cell_of, code_of}
 use Rattle.codes.specs.Places.{place, code_at, CodeOn, child_code, parent_code, last_digit}
 use Rattle.codes.proofs.Sizes.{size_pos, size_full, size_suc}
 use Rattle.codes.proofs.Codes.{code_formed, cell_of-code_of, code_of-cell_of, cell_formed, depth_of-cell_of}
-use Rattle.codes.proofs.Family.{code_of-child, code_of-parent}
+use Rattle.codes.proofs.Family.{code_of-child, code_cut}
 
 -- the places after the last digit, with the face and without
 tail_same : (x : ℕ) → depth x ≤ 26 → place x % size (depth x) ≡ path x % size (depth x)
@@ -61,7 +61,7 @@ unfolding parent_code
 parent_place x c h =
     let s : ℕ = size (depth x - 1) in
     let d : x / (32 * s) ≡ place x / s = sym (div-div-eq-div-mul x 32 s) in
-    sym (code_of-parent x c h) ∙ ap (λ (m : ℕ). m * (32 * s) + (depth x - 1)) d
+    sym (code_cut x c h) ∙ ap (λ (m : ℕ). m * (32 * s) + (depth x - 1)) d
     ∙ omega (arith, mod-eq-sub-div-mul (place x) s, div-mul-le_self (place x) s)
 
 pub child_cell : (x : ℕ) (q : Digit) → Code x → depth x < 26 → cell_of (child_code x (digit_no q)) ≡ child (cell_of x) q

@@ -1,6 +1,6 @@
 -- When a cell's side is part of its parent's side, by corners.
 --
---   end_of b s    == an end of side s: the first (b false) or the second
+--   end_of b s   == an end of side s: the first (b false) or the second
 --   OnSide s P X == X lies on side s of the triangle P, one level down: it is the sum of the side's two ends, or of one of
 --                   them with itself
 --   Part s c     == side s of the cell c is part of side s of its parent

@@ -8,7 +8,7 @@
 --                         below the cell
 --
 -- Assumes nothing.
-use Rattle.std.specs.Prelude.{List, ◌≡◌, ℕ, ◌+◌, ◌-◌, ◌<◌, ◌≤◌, length, take, slice_index, slice_range}
+use Rattle.std.specs.Prelude.{List, ◌≡◌, ℕ, ◌+◌, ◌<◌, ◌≤◌, length, take, slice_index, slice_range}
 use Rattle.codes.specs.Places.{child_code}
 use Rattle.soundness.specs.Leaves.{Leaf, Ascends, leaves, pad}
 use Rattle.soundness.specs.Soundness.{Covers}

@@ -96,8 +96,8 @@ module _ (S Q : ℕ) where
   fresh_tiles known (suc k) f a e h p q =
       head (eqb (Q / 2 ^ f % 2) 1) refl (fresh_tiles known k (f + 1) (base S + (f + 1) * 2 ^ 52) e (omega arith) refl (omega arith))
     where
-      on_face : (g : ℕ) → a ≤ g → g < base S + (f + 1) * 2 ^ 52 → face_at g ≡ f
-      on_face g l m = omega (arith, faces_few (solid_of S))
+      face_at_lem : (g : ℕ) → a ≤ g → g < base S + (f + 1) * 2 ^ 52 → face_at g ≡ f
+      face_at_lem g l m = omega (arith, faces_few (solid_of S))
 
       head : (b : Bool) → eqb (Q / 2 ^ f % 2) 1 ≡ b → Tiles S Q (base S + (f + 1) * 2 ^ 52) e (faces_from S Q (f + 1) k) →
           Tiles S Q a e (cond b (face_code S f ∷ []) [] ++ faces_from S Q (f + 1) k)
@@ -106,13 +106,13 @@ module _ (S Q : ℕ) where
             record {
               gap = gap_refl Q a (place x) (omega arith);
               cell = face_cell S f known (omega arith);
-              here = is_in Q (place x) f (on_face (place x) (omega arith) (omega arith)) (eqb-true _ 1 t);
+              here = is_in Q (place x) f (face_at_lem (place x) (omega arith) (omega arith)) (eqb-true _ 1 t);
             },
             tiles_wider S Q (past x) (base S + (f + 1) * 2 ^ 52) e (faces_from S Q (f + 1) k) (gap_refl Q _ _ (face_past S f)) u,
           )
       head false t u =
           tiles_wider S Q a (base S + (f + 1) * 2 ^ 52) e (faces_from S Q (f + 1) k)
-          (record { to = omega arith; none = λ g l m i. eqb-false _ 1 t (is_bit Q g f (on_face g l m) i) }) u
+          (record { to = omega arith; none = λ g l m i. eqb-false _ 1 t (is_bit Q g f (face_at_lem g l m) i) }) u
 
   pub fresh_tiling : Known S → Tiling S Q (fresh_leaves S Q)
   fresh_tiling known = fresh_tiles known (faces (solid_of S)) 0 (base S) (end S) (omega arith) (omega arith) (omega arith)
