@@ -1,5 +1,5 @@
 /* Calls every function of the interface, accepted and refused, from C and, compiled so, from C++. The expected numbers
- * stand here as document 01 gives them (the bench cases are named) or are worked out by hand; none is taken from the
+ * stand here as the rules give them (the bench cases are named) or are worked out by hand; none is taken from the
  * header. One line a check, and a last line with the counts; the exit status is 0 when every check passed.
  *
  * What is lent to a call is a block of the heap of exactly its length: so valgrind sees any byte that is read or
@@ -218,7 +218,7 @@ static void check_locate(void)
 static const uint64_t faces[4] = {FACE_0_OF_TETRAHEDRON, FACE_1_OF_TETRAHEDRON, FACE_2_OF_TETRAHEDRON,
                                   FACE_3_OF_TETRAHEDRON};
 
-/* The mesh that document 01 lists, called M there. */
+/* The mesh that the rules list, called M there. */
 static const uint64_t listed[7] = {CHILD_00_OF_FACE_0,    CHILD_01_OF_FACE_0,    CHILD_10_OF_FACE_0,
                                    CHILD_11_OF_FACE_0,    FACE_1_OF_TETRAHEDRON, FACE_2_OF_TETRAHEDRON,
                                    FACE_3_OF_TETRAHEDRON};

@@ -1,5 +1,4 @@
 -- The sides that a leaf asks for, by its last two digits in one number.
--- Assumes nothing.
 use mathlib.Core.Bool.{Bool, true, false, true≢false}
 use mathlib.Core.List.{List}
 use mathlib.Core.Logic.{◌⊎◌, inl, inr, ⊎_elim}

@@ -1,5 +1,4 @@
 -- The last two digits of a code are what stands before its unused places and its depth.
--- Assumes nothing.
 use mathlib.Core.Path.{◌≡◌, ap, sym, ◌∙◌}
 use Prim.Native.Nat.{ℕ, ◌+◌, ◌-◌, ◌*◌, ◌/◌, ◌%◌, ◌^◌, ◌<◌, ◌≤◌}
 use native.Mathlib.Nat.{div-div-eq-div-mul, div-add-mod', mul-div_cancel}

@@ -1,21 +1,21 @@
--- The leaves pass the level test where the sides of each slot are fine, and not otherwise.
--- Assumes nothing.
+-- The leaves pass the level test where the sides of each are fine, and not otherwise.
 use mathlib.Core.List.{List}
-use mathlib.Core.Path.{sym, subst}
-use Prim.Native.Nat.{ℕ, ◌<◌, ◌≤◌}
-use lib.ListN.{length, get_or, take}
+use mathlib.Core.Path.{◌≡◌, sym, subst}
+use Prim.Native.Nat.{ℕ, ◌<◌}
+use lib.ListN.{length, get_or}
 use Rattle.codes.specs.Places.{parent_code}
 use Rattle.steps.specs.Stepped.{step_code}
+use Rattle.soundness.specs.Leaves.{Leaf}
 use Rattle.soundness.specs.Inner.{Fine, Asked, Rows}
-use Rattle.soundness.proofs.Leaves.{at_leaf-take}
+use Rattle.soundness.proofs.Leaves.{leaf_at, at_leaf}
 use Rattle.balance.specs.Tiled.{SidesFine}
-use Rattle.balance.proofs.Tiled.{slot_leaf}
 
-module _ (Q : ℕ) (xs : List ℕ) (n : ℕ) (h : n ≤ length xs) where
-  pub rows_all : ((i : ℕ) → i < n → SidesFine Q (take n xs) (get_or xs i 0)) → Rows Q step_code (take n xs)
+-- M is the leaves as they were read
+module _ (Q : ℕ) (L M : List ℕ) (e : M ≡ L) where
+  pub rows_all : ((i : ℕ) → i < length M → SidesFine Q L (get_or M i 0)) → Rows Q step_code L
   rows_all f s a m q =
-      let r = at_leaf-take xs n a m h in
-      subst (λ (x : ℕ). Fine Q (take n xs) (step_code s (parent_code x))) r.2 (f r.0 r.1 s (subst (Asked s) (sym r.2) q))
+      let r = at_leaf M a (subst (λ (l : List ℕ). Leaf l a) (sym e) m) in
+      subst (λ (x : ℕ). Fine Q L (step_code s (parent_code x))) r.is (f r.at r.low s (subst (Asked s) (sym r.is) q))
 
-  pub rows_at : Rows Q step_code (take n xs) → (i : ℕ) → i < n → SidesFine Q (take n xs) (get_or xs i 0)
-  rows_at f i l s q = f s (get_or xs i 0) (slot_leaf Q xs n h i l) q
+  pub rows_at : Rows Q step_code L → (i : ℕ) → i < length M → SidesFine Q L (get_or M i 0)
+  rows_at f i l s q = f s (get_or M i 0) (subst (λ (t : List ℕ). Leaf t (get_or M i 0)) e (leaf_at M i l)) q

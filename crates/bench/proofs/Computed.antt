@@ -1,5 +1,4 @@
 -- The answers of the pure calls, computed from their promises.
--- Assumes nothing.
 use Prim.Native.Nat.{ℕ, ◌+◌, ◌%◌, ◌^◌}
 use Rattle.solids.specs.Solids.{solid_of, faces}
 use Rattle.refusals.specs.Answers.{done}

@@ -1,5 +1,4 @@
 -- Every case of the bench table holds: one test over the list, computed.
--- Assumes nothing.
 use mathlib.Core.Bool.{Bool, true, ◌&&◌}
 use mathlib.Core.List.{List, [], ◌∷◌}
 use mathlib.Core.Path.{◌≡◌, ap, ◌∙◌, subst}
@@ -8,7 +7,7 @@ use lib.Dec.{T, eqb, ltb, eqb→eq, ltb→lt}
 use Rattle.refusals.specs.Answers.{Reply, done, refused}
 use Rattle.refusals.proofs.Refusals.{ask, answer_is}
 use Rattle.solids.proofs.Tests.{and_l, and_r}
-use Rattle.codes.specs.Codes.{size, Code, cell_of, code_of}
+use Rattle.codes.specs.Codes.{size, IsCode, cell_of, code_of}
 use Rattle.codes.specs.Calls.{Checked}
 use Rattle.codes.proofs.Faults.{code_is_formed}
 use Rattle.steps.specs.Stepped.{Arrives, Stepped, step_code}
@@ -34,7 +33,7 @@ reply_is r x h =
 
 step_is : (x s y : ℕ) → T (agrees (steps x s y)) → Stepped x s (done y)
 step_is x s y h =
-    let c : Code x = code_is_formed x (checked x).meets (eqb→eq _ _ (and_l (eqb (checked x).answer 0) (ltb s 3 && eqb (step_code s x) y) h)) in
+    let c : IsCode x = code_is_formed x (checked x).meets (eqb→eq _ _ (and_l (eqb (checked x).answer 0) (ltb s 3 && eqb (step_code s x) y) h)) in
     let t : T (ltb s 3 && eqb (step_code s x) y) = and_r (eqb (checked x).answer 0) (ltb s 3 && eqb (step_code s x) y) h in
     let e : step_code s x ≡ y = eqb→eq _ _ (and_r (ltb s 3) (eqb (step_code s x) y) t) in
     step_on refused x s (Arrives x s) c (ltb→lt _ _ (and_l (ltb s 3) (eqb (step_code s x) y) t)) (subst (λ (n : ℕ). Arrives x s (done n)) e (arrives x s c))

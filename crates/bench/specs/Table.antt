@@ -6,10 +6,8 @@
 --   locates s f t l r d x   == the point of these weights, located at depth d, is in the cell of code x
 --   Says c                  == what the case c says
 --   coded s f p d           == the code of solid s, face f and the d digits that the number p has, the last lowest
---   table                   == the cases with their numbers in document 01
+--   table                   == the cases, each with its number
 --   AllSay rows             == every case of the list holds
---
--- Assumes nothing.
 use Rattle.std.specs.Prelude.{List, [], ◌∷◌, ℕ, ◌-◌, ◌*◌, ◌^◌}
 use Rattle.refusals.specs.Refusals.{SOLID, FACE, DEPTH, TAIL}
 use Rattle.refusals.specs.Answers.{done}
@@ -38,11 +36,11 @@ row n c = record { number = n; case = c }
 abbrev pub coded : ℕ → ℕ → ℕ → ℕ → ℕ
 coded s f p d = joined s f (p * 4 ^ (26 - d)) d
 
--- 1: the path pair is that of 001. 2: path 10100111 vertical is 10000111, same face, on a face of each solid. 3: path 0011110011
--- right, on icosahedron faces 5 (to face 10, path 0100000100) and 0 (to face 1, path 0001010001). 4: tetrahedron face 0,
--- path 01, vertical, to face 2, path 11. 5: tetrahedron face 3, path 11, right, to face 0, path 00. 6: octahedron face 3
--- right, to face 0. 7: code 0 is SOLID; octahedron face 8 is FACE, face 7 is fine. 8: depth 27 is DEPTH, 26 is fine;
--- 4000000000000020 is TAIL. 13: tetrahedron face 0 at depth 1, digits 00, 01 and 10.
+-- 1: six digits, right, on a face of the icosahedron. 2: path 10100111 vertical is 10000111, same face, on a face of each
+-- solid. 3: path 0011110011 right, on icosahedron faces 5 (to face 10, path 0100000100) and 0 (to face 1, path 0001010001).
+-- 4: tetrahedron face 0, path 01, vertical, to face 2, path 11. 5: tetrahedron face 3, path 11, right, to face 0, path 00.
+-- 6: octahedron face 3 right, to face 0. 7: code 0 is SOLID; octahedron face 8 is FACE, face 7 is fine. 8: depth 27 is DEPTH,
+-- 26 is fine; 4000000000000020 is TAIL. 13: tetrahedron face 0 at depth 1, digits 00, 01 and 10.
 unfoldable pub table : List Row
 table =
     row 1 (steps 0xce96000000000006 1 0xce98a00000000006)

@@ -1,8 +1,6 @@
 -- The word of a path of d digits: what it shows at its places, and the masks beside it.
 --
 --   slots_of s d w == the 32 places of the word w of a path of d digits, for a walk in direction s
---
--- Assumes nothing.
 use Rattle.std.proofs.Common.{◌≡◌, ℕ, ◌+◌, ◌-◌, ◌*◌, ◌/◌, ◌%◌, ◌^◌, ◌<◌, ◌≤◌, true, T, ltb, List, length, sym, refl, ap, ◌∙◌, div-lt_iff_lt-mul, div-add-mod', arith, pow-add}
 use native.Mathlib.Nat.{one-le-pow}
 use Rattle.solids.specs.Triangles.{Side}

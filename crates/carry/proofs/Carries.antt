@@ -5,11 +5,9 @@
 --   stops_at k                == the high bit where the walk stops at the digit of the place k
 --   sum_at k                  == what the addition leaves at k
 --   reached_at k              == the high bit where the walk reaches the digit of k
---
--- Assumes nothing.
-use Rattle.std.proofs.Common.{◌≡◌, ℕ, zero, suc, ◌+◌, ◌-◌, ◌*◌, ◌/◌, ◌%◌, ◌^◌, ◌<◌, ◌≤◌, true, cond, eqb, refl, ◌∙◌, arith}
+use Rattle.std.proofs.Common.{◌≡◌, ℕ, ◌+◌, ◌-◌, ◌*◌, ◌/◌, ◌%◌, ◌^◌, ◌<◌, ◌≤◌, true, cond, eqb, refl, ◌∙◌}
 use lib.Bits.{bit_and, bit_or, bit_xor}
-use Rattle.solids.specs.Triangles.{Side, left, right, vertical, side_of}
+use Rattle.solids.specs.Triangles.{Side, left, right, vertical, side_no}
 use Rattle.geometry.specs.Paths.{digit_no}
 use Rattle.geometry.specs.Steps.{stops, replaced, mirror}
 use Rattle.carry.specs.Carries.{digits_of, Carries, Mirrors}
@@ -39,17 +37,15 @@ on_vertical right = 0
 on_vertical vertical = 3
 
 -- the masks are made from the number of the direction
-pub right_mask : (n r : ℕ) → n < 3 → r < 2 ^ 64 → (r + bit_and n 1) % 2 ^ 64 ≡ 0 → r ≡ rep (on_right (side_of n)) 32
-right_mask zero r h l e = omega arith
-right_mask (suc zero) r h l e = omega arith
-right_mask (suc (suc zero)) r h l e = omega arith
-right_mask (suc (suc (suc n))) r h l e = absurd (omega arith)
+pub right_mask : (s : Side) {n : ℕ} → n ≡ side_no s → (0 + (2 ^ 64 - bit_and n 1)) % 2 ^ 64 ≡ rep (on_right s) 32
+right_mask left e = rw e
+right_mask right e = rw e
+right_mask vertical e = rw e
 
-pub vertical_mask : (n v : ℕ) → n < 3 → v < 2 ^ 64 → (v + n / 2 ^ 1) % 2 ^ 64 ≡ 0 → v ≡ rep (on_vertical (side_of n)) 32
-vertical_mask zero v h l e = omega arith
-vertical_mask (suc zero) v h l e = omega arith
-vertical_mask (suc (suc zero)) v h l e = omega arith
-vertical_mask (suc (suc (suc n))) v h l e = absurd (omega arith)
+pub vertical_mask : (s : Side) {n : ℕ} → n ≡ side_no s → (0 + (2 ^ 64 - n / 2 ^ 1)) % 2 ^ 64 ≡ rep (on_vertical s) 32
+vertical_mask left e = rw e
+vertical_mask right e = rw e
+vertical_mask vertical e = rw e
 
 abbrev stops_at : Slot → ℕ
 stops_at (pad s) = 0

@@ -5,8 +5,6 @@
 --   digit_at k    == the digit at the place k, 00 after the last digit
 --   walked_at k   == the digit that the walk leaves there
 --   mirrored_at k == that digit mirrored
---
--- Assumes nothing.
 use Rattle.std.proofs.Common.{◌≡◌, ℕ, zero, suc, ◌+◌, ◌*◌, ◌^◌, Bool, true, false, cond, not, ◌&&◌, List, [], ◌∷◌, map, refl, ap, pow-suc, arith}
 use Rattle.solids.specs.Triangles.{Side}
 use Rattle.geometry.specs.Corners.{Digit, d00}

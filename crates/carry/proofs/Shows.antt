@@ -2,8 +2,6 @@
 -- proves it.
 --
 --   Shows ks f x == the word x has f k, below 4, at each of the 32 places k of ks
---
--- Assumes nothing.
 use Rattle.std.proofs.Common.{◌≡◌, ℕ, ◌+◌, ◌-◌, ◌*◌, ◌/◌, ◌%◌, ◌^◌, ◌<◌, Bool, true, false, T, eqb, ltb, List, length, sym, refl, ap, ◌∙◌, subst, ap₂, mod-eq_of_lt, arith, eqb→eq, ltb→lt, eq-eqb, ne_eqb}
 use lib.Bits.{bit_and, bit_or, bit_xor, and_block, or_block, xor_block, and_lt, or_lt, xor_lt}
 use Rattle.solids.specs.Triangles.{Side}

@@ -7,8 +7,6 @@
 --   slots s z ds  == z places after the last digit, and those of ds, of which the walk reaches the last
 --   bit c         == 1 if c holds, else 0
 --   into k, out k == what comes into the place k, and what goes out, where one is added at the lowest place
---
--- Assumes nothing.
 use Rattle.std.proofs.Common.{◌≡◌, ℕ, zero, suc, ◌+◌, ◌*◌, ◌^◌, Bool, true, false, not, ◌&&◌, List, [], ◌∷◌, length, refl, ap, ◌∙◌, pow-suc, arith}
 use Rattle.solids.specs.Triangles.{Side}
 use Rattle.geometry.specs.Corners.{Digit}

@@ -2,8 +2,6 @@
 -- each reached by the walk or not.
 --
 --   every p == the test p holds at every place
---
--- Assumes nothing.
 use Rattle.std.proofs.Common.{Bool, true, false, ◌&&◌, T}
 use Rattle.solids.specs.Triangles.{Side, left, right, vertical}
 use Rattle.geometry.specs.Corners.{Digit, d00, d01, d10, d11}

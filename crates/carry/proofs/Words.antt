@@ -2,9 +2,9 @@
 --
 --   word f ks == the number with f k at each place k of ks
 --   rep v n   == the number with v at each of n places
---
--- Assumes nothing.
-use Rattle.std.proofs.Common.{◌≡◌, ℕ, zero, suc, ◌+◌, ◌*◌, ◌/◌, ◌^◌, ◌<◌, List, [], ◌∷◌, length, refl, ap, ◌∙◌, ap₂, pow-suc, arith}
+use Rattle.std.proofs.Common.{◌≡◌, ℕ, zero, suc, ◌+◌, ◌-◌, ◌*◌, ◌/◌, ◌^◌, ◌<◌, ◌≤◌, List, [], ◌∷◌, length, sym, refl, ap, ◌∙◌, ap₂, pow-suc, arith}
+use lib.Pow.{high, ones_split, ones_lt}
+use Rattle.geometry.proofs.Paths.{four}
 
 unfoldable pub word : {A : Type 0} → (A → ℕ) → List A → ℕ
 word f [] = 0
@@ -50,3 +50,12 @@ module _ (op : ℕ → ℕ → ℕ) (none : op 0 0 ≡ 0)
   bits f g l m (k ∷ ks) =
       block 2 (word f ks) (word g ks) (f k) (g k) (l k) (m k)
       ∙ ap (λ (a : ℕ). a * 4 + op (f k) (g k)) (bits f g l m ks)
+
+-- a word of ones, shifted down by two bits for each digit, has ones at the other places
+pub shifted : (d : ℕ) → d ≤ 26 → (2 ^ 64 - 1) / 2 ^ (2 * d) ≡ 4 ^ (32 - d) - 1
+shifted d h =
+    let e : 64 ≡ 2 * (32 - d) + 2 * d = omega arith in
+    ap (λ (m : ℕ). (2 ^ m - 1) / 2 ^ (2 * d)) e
+    ∙ ap (λ (m : ℕ). m / 2 ^ (2 * d)) (ones_split (2 * (32 - d)) (2 * d))
+    ∙ high (2 ^ (2 * (32 - d)) - 1) (2 * d) (ones_lt (2 * d))
+    ∙ ap (λ (m : ℕ). m - 1) (sym (four (32 - d)))

@@ -5,8 +5,6 @@
 --   Carries s d w path lost == of the word w of a path of d digits the walk in direction s makes the word path, and lost
 --                              tells whether it passes the first digit
 --   Mirrors w path          == the word path has the digits of the word w mirrored, at every depth that w can have
---
--- Assumes nothing.
 use Rattle.std.specs.Prelude.{◌≡◌, ℕ, ◌-◌, ◌*◌, ◌/◌, ◌%◌, ◌^◌, ◌≤◌, Bool, List, map}
 use Rattle.solids.specs.Triangles.{Side}
 use Rattle.geometry.specs.Corners.{Digit}

@@ -1,65 +1,40 @@
-// The exported calls on chosen numbers: well-formed ones, ones at the edges, and ones at fault in one or two ways. A line is
-// the call, what it was given and what it answered, in hexadecimal.
+//! The exported calls on chosen numbers: well-formed ones, ones at the edges, and ones at fault in one or two ways. A line is
+//! the call, what it was given and what it answered, in hexadecimal.
 
 #![tactic(auto)]
 
-use show::{shown, text};
 use std::io;
 
-fn answered(rt: &impl Print, number: u64) -> io::Result<()> {
-    text(rt, b" ->")?;
-    shown(rt, number)?;
-    text(rt, b"\n")
-}
-
 fn unpack(rt: &impl Print, code: u64) -> io::Result<()> {
-    text(rt, b"unpack")?;
-    shown(rt, code)?;
-    let mut fields = [7u64; 4];
+    let mut fields = [7; 4];
     let number = urdinhosa::urdinhosa_unpack(code, &mut fields);
-    text(rt, b" ->")?;
-    shown(rt, number)?;
-    shown(rt, fields[0])?;
-    shown(rt, fields[1])?;
-    shown(rt, fields[2])?;
-    shown(rt, fields[3])?;
-    text(rt, b"\n")
+    let [solid, face, path, depth] = fields;
+    println!(rt; "unpack {code:x} -> {number:x} {solid:x} {face:x} {path:x} {depth:x}")
 }
 
 fn parent(rt: &impl Print, code: u64) -> io::Result<()> {
-    text(rt, b"parent")?;
-    shown(rt, code)?;
-    answered(rt, urdinhosa::urdinhosa_parent(code))
+    let answer = urdinhosa::urdinhosa_parent(code);
+    println!(rt; "parent {code:x} -> {answer:x}")
 }
 
 fn child(rt: &impl Print, code: u64, digit: u64) -> io::Result<()> {
-    text(rt, b"child")?;
-    shown(rt, code)?;
-    shown(rt, digit)?;
-    answered(rt, urdinhosa::urdinhosa_child(code, digit))
+    let answer = urdinhosa::urdinhosa_child(code, digit);
+    println!(rt; "child {code:x} {digit:x} -> {answer:x}")
 }
 
 fn step(rt: &impl Print, code: u64, direction: u64) -> io::Result<()> {
-    text(rt, b"step")?;
-    shown(rt, code)?;
-    shown(rt, direction)?;
-    answered(rt, urdinhosa::urdinhosa_step(code, direction))
+    let answer = urdinhosa::urdinhosa_step(code, direction);
+    println!(rt; "step {code:x} {direction:x} -> {answer:x}")
 }
 
 fn walk(rt: &impl Print, code: u64, direction: u64) -> io::Result<()> {
-    text(rt, b"walk")?;
-    shown(rt, code)?;
-    shown(rt, direction)?;
-    answered(rt, urdinhosa::urdinhosa_walk(code, direction))
+    let answer = urdinhosa::urdinhosa_walk(code, direction);
+    println!(rt; "walk {code:x} {direction:x} -> {answer:x}")
 }
 
 fn pack(rt: &impl Print, solid: u64, face: u64, path: u64, depth: u64) -> io::Result<()> {
-    text(rt, b"pack")?;
-    shown(rt, solid)?;
-    shown(rt, face)?;
-    shown(rt, path)?;
-    shown(rt, depth)?;
-    answered(rt, urdinhosa::urdinhosa_pack(solid, face, path, depth))
+    let answer = urdinhosa::urdinhosa_pack(solid, face, path, depth);
+    println!(rt; "pack {solid:x} {face:x} {path:x} {depth:x} -> {answer:x}")
 }
 
 fn locate(
@@ -71,14 +46,8 @@ fn locate(
     r: u64,
     depth: u64,
 ) -> io::Result<()> {
-    text(rt, b"locate")?;
-    shown(rt, solid)?;
-    shown(rt, face)?;
-    shown(rt, t)?;
-    shown(rt, l)?;
-    shown(rt, r)?;
-    shown(rt, depth)?;
-    answered(rt, urdinhosa::urdinhosa_locate(solid, face, t, l, r, depth))
+    let answer = urdinhosa::urdinhosa_locate(solid, face, t, l, r, depth);
+    println!(rt; "locate {solid:x} {face:x} {t:x} {l:x} {r:x} {depth:x} -> {answer:x}")
 }
 
 fn about(rt: &impl Print, code: u64) -> io::Result<()> {
@@ -125,14 +94,13 @@ fn on_codes(rt: &impl Print) -> io::Result<()> {
 }
 
 fn across(rt: &impl Print, code: u64) -> io::Result<()> {
-    step(rt, code, 0)?;
-    step(rt, code, 1)?;
-    step(rt, code, 2)?;
-    step(rt, code, 3)?;
-    walk(rt, code, 0)?;
-    walk(rt, code, 1)?;
-    walk(rt, code, 2)?;
-    walk(rt, code, 3)
+    for direction in 0..4 {
+        step(rt, code, direction)?;
+    }
+    for direction in 0..4 {
+        walk(rt, code, direction)?;
+    }
+    Ok(())
 }
 
 fn stepping(rt: &impl Print) -> io::Result<()> {
@@ -191,49 +159,28 @@ fn locating(rt: &impl Print) -> io::Result<()> {
 }
 
 fn sound(rt: &impl Print, slots: &[u64]) -> io::Result<()> {
-    text(rt, b"sound")?;
-    if urdinhosa::urdinhosa_sound(slots) {
-        answered(rt, 1)
-    } else {
-        answered(rt, 0)
-    }
-}
-
-// The number and the blocker that a call gave.
-fn changed(rt: &impl Print, number: u64, blocker: u64) -> io::Result<()> {
-    text(rt, b" ->")?;
-    shown(rt, number)?;
-    shown(rt, blocker)?;
-    text(rt, b"\n")
+    println!(rt; "sound -> {}", u64::from(urdinhosa::urdinhosa_sound(slots)))
 }
 
 fn fresh(rt: &impl Print, slots: &mut [u64], solid: u64) -> io::Result<()> {
-    text(rt, b"fresh")?;
-    shown(rt, solid)?;
-    answered(rt, urdinhosa::urdinhosa_fresh(slots, solid))
+    let answer = urdinhosa::urdinhosa_fresh(slots, solid);
+    println!(rt; "fresh {solid:x} -> {answer:x}")
 }
 
 fn refine(rt: &impl Print, slots: &mut [u64], leaf: u64) -> io::Result<()> {
-    text(rt, b"refine")?;
-    shown(rt, leaf)?;
     let mut blocker = 7;
     let number = urdinhosa::urdinhosa_refine(slots, leaf, &mut blocker);
-    changed(rt, number, blocker)
+    println!(rt; "refine {leaf:x} -> {number:x} {blocker:x}")
 }
 
 fn coarsen(rt: &impl Print, slots: &mut [u64], cell: u64) -> io::Result<()> {
-    text(rt, b"coarsen")?;
-    shown(rt, cell)?;
     let mut blocker = 7;
     let number = urdinhosa::urdinhosa_coarsen(slots, cell, &mut blocker);
-    changed(rt, number, blocker)
+    println!(rt; "coarsen {cell:x} -> {number:x} {blocker:x}")
 }
 
 fn met(rt: &impl Print, slots: &[u64], leaf: u64, direction: u64) -> io::Result<()> {
-    text(rt, b"across")?;
-    shown(rt, leaf)?;
-    shown(rt, direction)?;
-    let mut level: i64 = 7;
+    let mut level = 7;
     let mut first = 7;
     let mut second = 7;
     let number = urdinhosa::urdinhosa_across(
@@ -244,31 +191,14 @@ fn met(rt: &impl Print, slots: &[u64], leaf: u64, direction: u64) -> io::Result<
         &mut first,
         &mut second,
     );
-    text(rt, b" ->")?;
-    shown(rt, number)?;
-    if level < 0 {
-        text(rt, b" -1")?;
-    } else if level == 0 {
-        text(rt, b" 0")?;
-    } else {
-        text(rt, b" 1")?;
-    }
-    shown(rt, first)?;
-    shown(rt, second)?;
-    text(rt, b"\n")
+    println!(rt; "across {leaf:x} {direction:x} -> {number:x} {level} {first:x} {second:x}")
 }
 
 fn run(rt: &impl Print, slots: &[u64], cell: u64) -> io::Result<()> {
-    text(rt, b"run")?;
-    shown(rt, cell)?;
-    let mut start: usize = 7;
-    let mut count: usize = 7;
+    let mut start = 7;
+    let mut count = 7;
     let number = urdinhosa::urdinhosa_run(slots, cell, &mut start, &mut count);
-    text(rt, b" ->")?;
-    shown(rt, number)?;
-    shown(rt, start as u64)?;
-    shown(rt, count as u64)?;
-    text(rt, b"\n")
+    println!(rt; "run {cell:x} -> {number:x} {start:x} {count:x}")
 }
 
 // The tetrahedron with its face 0 refined, and what comes of it in ten slots.

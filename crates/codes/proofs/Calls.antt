@@ -16,7 +16,7 @@ use Rattle.geometry.specs.Corners.{Digit, child_corners, corners}
 use Rattle.geometry.specs.Paths.{digit_no, digit_of}
 use Rattle.geometry.specs.Cells.{Cell, depth_of, corner, parent, child, under}
 use Rattle.geometry.proofs.Paths.{digit<4, digit_of-digit_no}
-use Rattle.codes.specs.Codes.{solid, face, path, depth, joined, Code, cell_of, code_of, Descends}
+use Rattle.codes.specs.Codes.{solid, face, path, depth, joined, IsCode, cell_of, code_of, Descends}
 use Rattle.codes.specs.Calls.{Checked, Packed, Unpacking, unpacked, not_unpacked, Unpacked, parent_end, ParentOf, child_end, ChildOf, SomeChild}
 use Rattle.codes.proofs.Faults.{faults_single, passed, go_on, code_single, code_passed, code_on}
 use Rattle.codes.proofs.Codes.{formed_back, whole, code_formed, cell_of-code_of, code_of-cell_of, cell_formed, depth_of-cell_of, cell_deep, one_code}
@@ -64,7 +64,7 @@ pack_unpacked x s f p d h =
 -- parent and child
 
 pub record Parent (x y : ℕ) : Type 0 where
-  pub code : Code x
+  pub code : IsCode x
   pub below : 0 < depth x
   pub is : y ≡ code_of (parent (cell_of x))
 
@@ -75,7 +75,7 @@ parent_done x y h =
     record { code = a.0; below = b.0; is = done_one b.1 }
 
 record Child (x q y : ℕ) : Type 0 where
-  code : Code x
+  code : IsCode x
   digit : q ≤ 3
   above : depth x < 26
   is : y ≡ code_of (child (cell_of x) (digit_of q))
@@ -90,8 +90,8 @@ child_done x q y h =
 child_cell : {x q y : ℕ} → Child x q y → cell_of y ≡ child (cell_of x) (digit_of q)
 child_cell {x} {q} {y} h = ap cell_of h.is ∙ cell_of-code_of (child (cell_of x) (digit_of q)) (cell_formed x h.code) (rw (depth_of-cell_of x) h.above)
 
-child_code_formed : {x q y : ℕ} → Child x q y → Code y
-child_code_formed {x} {q} {y} h = subst Code (sym h.is) (code_formed (child (cell_of x) (digit_of q)) (cell_formed x h.code) (rw (depth_of-cell_of x) h.above))
+child_code_formed : {x q y : ℕ} → Child x q y → IsCode y
+child_code_formed {x} {q} {y} h = subst IsCode (sym h.is) (code_formed (child (cell_of x) (digit_of q)) (cell_formed x h.code) (rw (depth_of-cell_of x) h.above))
 
 pub parent_of_child : (x q y : ℕ) → ChildOf x q (done y) → ParentOf y (done x)
 parent_of_child x q y h =
@@ -109,7 +109,7 @@ child_of_parent x y h =
     let k : depth_of (cell_of x) ≡ suc (depth_of (parent (cell_of x))) = ap depth_of c.is in
     let l : depth_of (parent (cell_of x)) ≤ 26 = omega (arith, cell_deep x a.code) in
     let i : cell_of y ≡ parent (cell_of x) = ap cell_of a.is ∙ cell_of-code_of (parent (cell_of x)) (cell_formed x a.code) l in
-    let f : Code y = subst Code (sym a.is) (code_formed (parent (cell_of x)) (cell_formed x a.code) l) in
+    let f : IsCode y = subst IsCode (sym a.is) (code_formed (parent (cell_of x)) (cell_formed x a.code) l) in
     let e : depth y ≡ depth_of (parent (cell_of x)) = sym (depth_of-cell_of y) ∙ ap depth_of i in
     record {
       digit = q;
@@ -135,7 +135,7 @@ under_after : (c : Cell) (q : Digit) (es : List Digit) → depth_of (under c (q 
 under_after c q [] h = omega (arith, code_of-child c q h)
 under_after c q (e ∷ es) h = omega (arith, under_after c e es (omega arith), code_of-child (under c (e ∷ es)) q h)
 
-pub ancestor_before : (x y : ℕ) → Code x → Code y → Descends x y → x < y
+pub ancestor_before : (x y : ℕ) → IsCode x → IsCode y → Descends x y → x < y
 ancestor_before x y a b d = go d.within.digits d.within.inside
   where
     go : (es : List Digit) → cell_of y ≡ under (cell_of x) es → x < y

@@ -17,7 +17,7 @@ use Rattle.geometry.specs.Corners.{Digit}
 use Rattle.geometry.specs.Paths.{number, digits}
 use Rattle.geometry.specs.Cells.{Cell, WellFormed, depth_of}
 use Rattle.geometry.proofs.Paths.{length-digits, digits-number, number-digits, number<}
-use Rattle.codes.specs.Codes.{solid, face, path, depth, joined, size, Formed, Code, cell_of, path_bits, code_of}
+use Rattle.codes.specs.Codes.{solid, face, path, depth, joined, size, Formed, IsCode, cell_of, path_bits, code_of}
 use Rattle.codes.proofs.Sizes.{size_pos, size_full}
 
 -- fields side by side are read back
@@ -37,7 +37,7 @@ formed_back s f p d h = back s f p d (omega (arith, h.known)) (omega (arith, h.o
 pub whole : (x : ℕ) → joined (solid x) (face x) (path x) (depth x) ≡ x
 whole x = omega arith
 
-pub code_small : (x : ℕ) → Code x → x < 2 ^ 64
+pub code_small : (x : ℕ) → IsCode x → x < 2 ^ 64
 code_small x c = omega (arith, c.known)
 
 -- from cells to codes
@@ -58,7 +58,7 @@ cell_fields c w h = record {
 pub cell_back : (c : Cell) → WellFormed c → depth_of c ≤ 26 → Back (solid_no c.solid) c.face (path_bits c.path) (depth_of c)
 cell_back c w h = formed_back (solid_no c.solid) c.face (path_bits c.path) (depth_of c) (cell_fields c w h)
 
-pub code_formed : (c : Cell) → WellFormed c → depth_of c ≤ 26 → Code (code_of c)
+pub code_formed : (c : Cell) → WellFormed c → depth_of c ≤ 26 → IsCode (code_of c)
 unfolding code_of
 code_formed c w h =
     let b = cell_back c w h in
@@ -73,7 +73,7 @@ cell_of-code_of c w h =
 
 -- from codes to cells
 
-pub cell_formed : (x : ℕ) → Code x → WellFormed (cell_of x)
+pub cell_formed : (x : ℕ) → IsCode x → WellFormed (cell_of x)
 unfolding cell_of
 cell_formed x c = c.on
 
@@ -81,13 +81,13 @@ pub depth_of-cell_of : (x : ℕ) → depth_of (cell_of x) ≡ depth x
 unfolding cell_of
 depth_of-cell_of x = length-digits (depth x) (path x / size (depth x))
 
-pub cell_deep : (x : ℕ) → Code x → depth_of (cell_of x) ≤ 26
+pub cell_deep : (x : ℕ) → IsCode x → depth_of (cell_of x) ≤ 26
 cell_deep x c = rw (depth_of-cell_of x) c.deep
 
 pub digits_fit : (p d : ℕ) → d ≤ 26 → p < 2 ^ 52 → p / size d < 4 ^ d
 digits_fit p d h l = (div-lt_iff_lt-mul (size_pos d)).1 (subst (λ (m : ℕ). p < m) (sym (size_full d h)) l)
 
-pub code_of-cell_of : (x : ℕ) → Code x → code_of (cell_of x) ≡ x
+pub code_of-cell_of : (x : ℕ) → IsCode x → code_of (cell_of x) ≡ x
 unfolding code_of cell_of
 code_of-cell_of x c =
     let p : ℕ = path x in
@@ -96,5 +96,5 @@ code_of-cell_of x c =
     let m : p / size d * size d ≡ p = omega (arith, div-add-mod' p (size d), c.tail.1) in
     rw (length-digits d (p / size d), n, m, solid_no-solid_of (solid x) c.known) (whole x)
 
-pub one_code : (x y : ℕ) → Code x → Code y → cell_of x ≡ cell_of y → x ≡ y
+pub one_code : (x y : ℕ) → IsCode x → IsCode y → cell_of x ≡ cell_of y → x ≡ y
 one_code x y a b e = sym (code_of-cell_of x a) ∙ ap code_of e ∙ code_of-cell_of y b

@@ -1,5 +1,4 @@
 -- Parent and child of a code, by its number and by shifts.
--- Assumes nothing.
 use mathlib.Core.List.{List, [], ◌∷◌}
 use mathlib.Core.Path.{◌≡◌, refl, ap, sym, ◌∙◌}
 use Prim.Native.Nat.{ℕ, suc, ◌+◌, ◌-◌, ◌*◌, ◌/◌, ◌%◌, ◌^◌, ◌<◌, ◌≤◌}
@@ -11,10 +10,10 @@ use lib.ListN.{length}
 use lib.Pow.{shl_exact}
 use Rattle.solids.specs.Solids.{solid_no}
 use Rattle.geometry.specs.Corners.{Digit}
-use Rattle.geometry.specs.Paths.{digit_no, digit_of, number}
-use Rattle.geometry.specs.Cells.{Cell, cell, depth_of, parent, child}
-use Rattle.geometry.proofs.Paths.{digit<4, digit_no-digit_of}
-use Rattle.codes.specs.Codes.{depth, size, Code, cell_of, code_of}
+use Rattle.geometry.specs.Paths.{digit_no, number}
+use Rattle.geometry.specs.Cells.{Cell, cell, depth_of, parent_path, parent, child}
+use Rattle.geometry.proofs.Paths.{digit<4}
+use Rattle.codes.specs.Codes.{depth, size, IsCode, cell_of, code_of}
 use Rattle.codes.proofs.Sizes.{size_pos, size_full, size_suc, place_two}
 use Rattle.codes.proofs.Codes.{code_small, code_formed, code_of-cell_of, cell_formed, depth_of-cell_of}
 
@@ -68,12 +67,19 @@ cell_cut c h k =
     rw j (ap (λ (x : Cell). code_of x / (32 * size (depth_of (parent c))) * (32 * size (depth_of (parent c))) + depth_of (parent c)) b.is
     ∙ child_cut (parent c) b.digit (omega arith))
 
-pub code_cut : (x : ℕ) → Code x → 0 < depth x →
+pub code_cut : (x : ℕ) → IsCode x → 0 < depth x →
     x / (32 * size (depth x - 1)) * (32 * size (depth x - 1)) + (depth x - 1) ≡ code_of (parent (cell_of x))
 code_cut x c h = rw (code_of-cell_of x c, depth_of-cell_of x) at (cell_cut (cell_of x) (rw (depth_of-cell_of x) c.deep) (rw (depth_of-cell_of x) h))
 
+parent_depth : (c : Cell) → depth_of (parent c) ≤ depth_of c
+parent_depth c = go c.path
+  where
+    go : (ds : List Digit) → length (parent_path ds) ≤ length ds
+    go [] = omega arith
+    go (d ∷ ds) = omega arith
+
 -- by shifts: the last digit and the depth go out, the parent's depth comes in
-pub parent_bits : (x d : ℕ) → Code x → d ≡ depth x → 0 < d →
+pub parent_bits : (x d : ℕ) → IsCode x → d ≡ depth x → 0 < d →
     bit_or ((x / 2 ^ (59 - 2 * d) * 2 ^ (59 - 2 * d)) % 2 ^ 64) (d - 1) ≡ code_of (parent (cell_of x))
 parent_bits x d c e h =
     let k : ℕ = 59 - 2 * d in
@@ -84,17 +90,24 @@ parent_bits x d c e h =
     ap (λ (m : ℕ). bit_or m (d - 1)) (mod-eq_of_lt l) ∙ or_shifted (x / 2 ^ k) k (d - 1) s
     ∙ ap (λ (m : ℕ). x / m * m + (d - 1)) p ∙ rw e (code_cut x c (omega arith))
 
+pub parent_formed : (x : ℕ) → IsCode x → 0 < depth x → IsCode (code_of (parent (cell_of x)))
+parent_formed x c h =
+    let l : depth_of (parent (cell_of x)) ≤ 26 = omega (arith, c.deep, depth_of-cell_of x, parent_depth (cell_of x)) in
+    code_formed (parent (cell_of x)) (cell_formed x c) l
+
+pub child_formed : (x : ℕ) (q : Digit) → IsCode x → depth x < 26 → IsCode (code_of (child (cell_of x) q))
+child_formed x q c h = code_formed (child (cell_of x) q) (cell_formed x c) (rw (depth_of-cell_of x) h)
+
 -- by shifts: the digit is put in its place, the depth is one more, and nothing wraps
-pub child_bits : (x q d : ℕ) → Code x → q < 4 → d ≡ depth x → d < 26 →
-    (x + (q * 2 ^ (55 - 2 * d)) % 2 ^ 64 + 1 ≡ code_of (child (cell_of x) (digit_of q))) × (x + (q * 2 ^ (55 - 2 * d)) % 2 ^ 64 + 1 < 2 ^ 64)
-child_bits x q d c l e h =
+pub child_bits : (x d : ℕ) (q : Digit) → IsCode x → d ≡ depth x → d < 26 →
+    (x + (digit_no q * 2 ^ (55 - 2 * d)) % 2 ^ 64 + 1 ≡ code_of (child (cell_of x) q)) × (x + (digit_no q * 2 ^ (55 - 2 * d)) % 2 ^ 64 + 1 < 2 ^ 64)
+child_bits x d q c e h =
     let k : ℕ = 55 - 2 * d in
     let p : 2 ^ k ≡ 32 * size (suc d) = place_two (suc d) k (omega arith) (omega arith) in
-    let m : (q * 2 ^ k) % 2 ^ 64 ≡ q * 2 ^ k = shl_exact 2 k 64 l (omega arith) in
+    let m : (digit_no q * 2 ^ k) % 2 ^ 64 ≡ digit_no q * 2 ^ k = shl_exact 2 k 64 (digit<4 q) (omega arith) in
     let n : depth_of (cell_of x) ≡ d = depth_of-cell_of x ∙ sym e in
-    let t : code_of (child (cell_of x) (digit_of q)) ≡ code_of (cell_of x) + digit_no (digit_of q) * (32 * size (suc (depth_of (cell_of x)))) + 1 =
-    code_of-child (cell_of x) (digit_of q) (omega arith) in
-    let v : x + (q * 2 ^ k) % 2 ^ 64 + 1 ≡ code_of (child (cell_of x) (digit_of q)) =
-    ap (λ (a : ℕ). x + a + 1) (m ∙ ap (λ (a : ℕ). q * a) p) ∙ sym (rw (code_of-cell_of x c, digit_no-digit_of q l, n) at t) in
-    let f : Code (code_of (child (cell_of x) (digit_of q))) = code_formed (child (cell_of x) (digit_of q)) (cell_formed x c) (omega arith) in
-    (v, omega (arith, v, code_small (code_of (child (cell_of x) (digit_of q))) f))
+    let t : code_of (child (cell_of x) q) ≡ code_of (cell_of x) + digit_no q * (32 * size (suc (depth_of (cell_of x)))) + 1 =
+    code_of-child (cell_of x) q (omega arith) in
+    let v : x + (digit_no q * 2 ^ k) % 2 ^ 64 + 1 ≡ code_of (child (cell_of x) q) =
+    ap (λ (a : ℕ). x + a + 1) (m ∙ ap (λ (a : ℕ). digit_no q * a) p) ∙ sym (rw (code_of-cell_of x c, n) at t) in
+    (v, omega (arith, v, code_small (code_of (child (cell_of x) q)) (child_formed x q c (omega arith))))

@@ -13,7 +13,7 @@ use Rattle.geometry.specs.Corners.{Digit}
 use Rattle.geometry.specs.Paths.{number, digits}
 use Rattle.geometry.specs.Cells.{Cell, cell}
 use Rattle.geometry.proofs.Paths.{number<, number-digits}
-use Rattle.codes.specs.Codes.{solid, face, path, depth, size, Code, cell_of, Within}
+use Rattle.codes.specs.Codes.{solid, face, path, depth, size, IsCode, cell_of, Within}
 use Rattle.codes.specs.Places.{place, past, code_at}
 use Rattle.codes.proofs.Sizes.{size_full}
 use Rattle.codes.proofs.Codes.{digits_fit, depth_of-cell_of}
@@ -38,7 +38,7 @@ number_append [] ds = omega arith
 number_append (e ∷ es) ds =
     omega (arith, number_append es ds, ap (λ (k : ℕ). k * number ds) (pow-suc 4 (length es)))
 
-module _ (x g : ℕ) (c : Code x) where
+module _ (x g : ℕ) (c : IsCode x) where
   -- the path of a cell, and its interval, end within the face
   room : path x + size (depth x) ≤ 2 ^ 52
   room =
@@ -72,7 +72,7 @@ module _ (x g : ℕ) (c : Code x) where
       }
 
 -- the number of a code's digits
-path_number : (x : ℕ) → Code x → number (cell_of x).path * size (depth x) ≡ path x
+path_number : (x : ℕ) → IsCode x → number (cell_of x).path * size (depth x) ≡ path x
 unfolding cell_of
 path_number x c =
     let s : ℕ = size (depth x) in
@@ -83,7 +83,7 @@ path_number x c =
 place_parts : (x : ℕ) → place x ≡ (solid x * 32 + face x) * 2 ^ 52 + path x
 place_parts x = omega arith
 
-pub within_place : (x g : ℕ) → Code x → Code (code_at g 26) → Within x (code_at g 26) → (place x ≤ g) × (g < past x)
+pub within_place : (x g : ℕ) → IsCode x → IsCode (code_at g 26) → Within x (code_at g 26) → (place x ≤ g) × (g < past x)
 unfolding cell_of size
 within_place x g c k w =
     let y : ℕ = code_at g 26 in

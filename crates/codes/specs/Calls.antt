@@ -1,27 +1,30 @@
 -- What the calls on codes answer, for any numbers.
 --
 --   Checked x n            == n is the number for the code x: its first fault, or 0
+--   CodeTried x r          == r is the code x, or refuses by its first fault
 --   Packed s f p d r       == r is the reply for packing a solid, a face, a path and a depth
 --   Unpacking              == what unpacking answers: a number and the four fields
 --   unpacked, not_unpacked == done with these fields; a refusal: its number and four zeros
 --   Unpacked x u           == u is the reply for unpacking the code x
 --   ParentOf x r           == r is the reply for the parent of x
 --   ChildOf x q r          == r is the reply for the child of x of digit q
---   fields e               == the number and values of each case of the enum Fields
+--   fields r               == the number and the four fields of a call that gives fields or refuses
 --   SomeChild y x          == x is the child of y of some digit
 --
--- Assumes nothing.
-use Rattle.std.specs.Prelude.{◌≡◌, ℕ, ◌<◌, ◌≤◌}
+use Rattle.std.specs.Prelude.{◌≡◌, ℕ, ◌<◌, ◌≤◌, Result, Ok, Err, MatchResult}
 use Rattle.refusals.specs.Refusals.{DIGIT, DEEP, ROOT, need}
-use Rattle.refusals.specs.Answers.{Reply, done, refused}
+use Rattle.refusals.specs.Answers.{Reply, done, refused, refusal, number}
+use Rattle.refusals.specs.declared.Refusal.{Refusal}
 use Rattle.geometry.specs.Paths.{digit_of}
 use Rattle.geometry.specs.Cells.{parent, child}
-use Rattle.codes.specs.Codes.{solid, face, path, depth, joined, cell_of, code_of, faults, code_faults}
+use Rattle.codes.specs.Codes.{solid, face, path, depth, joined, IsCode, cell_of, code_of, faults, code_faults}
 use Rattle.codes.specs.declared.Fields.{Fields}
-use Rattle.codes.specs.declared.Fields.TheVariants.{Of, Refused}
 
 abbrev pub Checked : ℕ → ℕ → Type 0
 Checked x = code_faults (λ k. k) x (λ n. n ≡ 0)
+
+abbrev pub CodeTried : ℕ → Result ℕ Refusal → Type 0
+CodeTried x r = MatchResult r (λ c. (c ≡ x) × IsCode x) (λ e. code_faults refused x (λ _. ⊥) (refusal e))
 
 -- "Packing from separate numbers (solid, face, a path of 52 bits with its first digit on top, depth): 1, 2, 3, 4."
 abbrev pub Packed : ℕ → ℕ → ℕ → ℕ → Reply → Type 0
@@ -40,9 +43,9 @@ unpacked s f p d = record { number = 0; solid = s; face = f; path = p; depth = d
 abbrev pub not_unpacked : ℕ → Unpacking
 not_unpacked k = record { number = k; solid = 0; face = 0; path = 0; depth = 0 }
 
-abbrev pub fields : Fields → Unpacking
-fields (Of s f p d) = unpacked s f p d
-fields (Refused k) = not_unpacked k
+abbrev pub fields : Result Fields Refusal → Unpacking
+fields (Ok f) = unpacked f.solid f.face f.path f.depth
+fields (Err e) = not_unpacked (number e)
 
 abbrev pub Unpacked : ℕ → Unpacking → Type 0
 Unpacked x = code_faults not_unpacked x (λ u. u ≡ unpacked (solid x) (face x) (path x) (depth x))

@@ -4,14 +4,13 @@
 --   joined s f p d                   == the code with these fields
 --   size d                           == the place value of the last digit at depth d, in a path of 26 digits
 --   Formed s f p d                   == the fields are those of a cell
---   Code x                           == x is a well-formed code
+--   IsCode x                           == x is a well-formed code
 --   path_bits ds                     == the 52 bits of a path, its first digit on top
 --   cell_of x, code_of c             == the cell of a code, the code of a cell
 --   Within x y                       == the cell of y is that of x or lies inside it
 --   Descends x y                     == y is another code within x: x is an ancestor of y
 --   faults, code_faults              == refusals 1 to 4, in their sequence, for four fields and for a code
 --
--- Assumes nothing.
 use Rattle.std.specs.Prelude.{List, ◌≢◌, ◌≡◌, ℕ, ◌+◌, ◌-◌, ◌*◌, ◌/◌, ◌%◌, ◌^◌, ◌<◌, ◌≤◌, length}
 use Rattle.solids.specs.Solids.{Known, solid_no, solid_of, faces}
 use Rattle.refusals.specs.Refusals.{SOLID, FACE, DEPTH, TAIL, need}
@@ -46,8 +45,8 @@ pub record Formed (s f p d : ℕ) : Type 0 where
   pub deep : d ≤ 26
   pub tail : (p < 2 ^ 52) × (p % size d ≡ 0)
 
-abbrev pub Code : ℕ → Type 0
-Code x = Formed (solid x) (face x) (path x) (depth x)
+abbrev pub IsCode : ℕ → Type 0
+IsCode x = Formed (solid x) (face x) (path x) (depth x)
 
 unfoldable pub cell_of : ℕ → Cell
 cell_of x = cell (solid_of (solid x)) (face x) (digits (depth x) (path x / size (depth x)))

@@ -9,8 +9,6 @@
 --   child_code x q == the code of the child of x of digit q
 --   parent_code x  == the code of the parent of x
 --   last_digit x   == the last digit of x
---
--- Assumes nothing.
 use Rattle.std.specs.Prelude.{◌≡◌, ℕ, ◌+◌, ◌-◌, ◌*◌, ◌/◌, ◌%◌, ◌^◌, ◌<◌, ◌≤◌}
 use Rattle.solids.specs.Solids.{Known, solid_of, faces}
 use Rattle.codes.specs.Codes.{size, depth}

@@ -4,8 +4,6 @@
 --   AreCorners c P == the arrays of c are the corners of the triangle P, weight for weight
 --   HasCorner P x  == the triangle P has the corner x, at whichever of its own corners
 --   HasSide s P Q  == the triangle Q has both end corners of side s of the triangle P
---
--- Assumes nothing.
 use Rattle.std.specs.Prelude.{List, ◌≡◌, ℕ}
 use Rattle.solids.specs.Triangles.{Corner, tip, lft, rgt, Side, end₀, end₁}
 use Rattle.geometry.specs.Corners.{Triangle}

@@ -1,63 +1,54 @@
-// The examination of a lent slice, with which every call on a mesh begins: whether it holds a sound mesh, and of how many
-// leaves. One linear pass over the leaves, the zeros after them, and the level test.
+//! The examination of a lent slice, with which every call on a mesh begins: whether it holds a sound mesh. One linear pass over
+//! the leaves, the zeros after them, and the level test.
 
 #![tactic(auto)]
 
 ghost use Rattle.std.specs.Prelude.{◌≡◌, ◌≤◌, length};
-ghost use Rattle.solids.specs.Solids.{Known};
-ghost use Rattle.soundness.specs.Regions.{all_faces, FaceSet};
+ghost use Rattle.solids.specs.Solids.{solid_no};
+ghost use Rattle.soundness.specs.Regions.{FaceSet};
 ghost use Rattle.examine.specs.Examined.{first_solid, whole_of, Examined};
 
-// What is found: more slots than a mesh may have, no sound mesh, or a sound one of so many leaves.
-#[derive(Clone, Copy)]
-pub enum Seen {
-    Long,
-    Unsound,
-    Leaves(usize),
-}
+use codes::Fields;
+use refusals::Refusal;
+use solids::Solid;
+use soundness::meshes::Mesh;
+use soundness::regions::Faces;
+use tiling::Tiles;
 
-// The most slots that a mesh may have.
+/// The most slots that a mesh may have.
 pub const SLOTS: usize = 8192;
 
-// All faces of a solid, a bit for each.
-pub fn all_faces(solid: u64) -> u64
-    requires { Known solid }
-    ensures { result ≡ all_faces solid }
-{
-    (1 << solids::faces_of(solid)) - 1
-}
-
-// For the set of faces of the first slot's solid.
-fn examine_faces(slots: &[u64], solid: u64, faces: u64) -> Seen
-    requires { (length slots.now ≤ 8192) × Known solid × (solid ≡ first_solid slots.now) × FaceSet solid faces }
+// The mesh of a set of faces of the first slot's solid.
+fn examine_faces(slots: &[u64], solid: Solid, faces: Faces) -> Result<Mesh<'_>, Refusal>
+    requires short { length slots.now ≤ 8192 }
+    requires solid { solid_no solid ≡ first_solid slots.now }
+    requires faces { FaceSet (solid_no solid) faces }
     ensures { Examined faces slots.now result }
 {
-    let n = tiling::tile_count(slots, faces, solid);
-    if n == 0 {
-        return Seen::Unsound;
+    let Some(tiles) = Tiles::of(slots, faces, solid) else {
+        return Err(Refusal::Mesh);
+    };
+    if !slots::zeros_from(slots, tiles.len()) {
+        return Err(Refusal::Mesh);
     }
-    if !slots::zeros_from(slots, n) {
-        return Seen::Unsound;
+    if !balance::balanced(&tiles) {
+        return Err(Refusal::Mesh);
     }
-    if !balance::balanced(slots, n, faces) {
-        return Seen::Unsound;
-    }
-    Seen::Leaves(n)
+    Ok(Mesh::new(tiles.codes(), faces))
 }
 
-// For the whole solid of the first slot.
-pub fn examine(slots: &[u64]) -> Seen
+/// The mesh in a slice, of the whole solid of its first slot.
+pub fn examine(slots: &[u64]) -> Result<Mesh<'_>, Refusal>
     ensures { Examined (whole_of slots.now) slots.now result }
 {
     if SLOTS < slots.len() {
-        return Seen::Long;
+        return Err(Refusal::Buffer);
     }
-    if slots.len() == 0 {
-        return Seen::Unsound;
+    if slots.is_empty() {
+        return Err(Refusal::Mesh);
     }
-    let solid = codes::solid_of(slots[0]);
-    if solid < 1 {
-        return Seen::Unsound;
-    }
-    examine_faces(slots, solid, all_faces(solid))
+    let Ok(solid) = Solid::try_from(Fields::of(slots[0]).solid) else {
+        return Err(Refusal::Mesh);
+    };
+    examine_faces(slots, solid, Faces::all(solid))
 }

@@ -7,8 +7,6 @@
 --   child c d    == its child of digit d
 --   parent c     == the cell that it is a child of; a face is its own
 --   under c es   == the cell that the digits es lead to from c
---
--- Assumes nothing.
 use Rattle.std.specs.Prelude.{List, [], ◌∷◌, ◌++◌, ℕ, ◌<◌, length}
 use Rattle.solids.specs.Solids.{Solid, faces, vertex}
 use Rattle.geometry.specs.Weights.{unit}

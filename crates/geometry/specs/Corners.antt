@@ -7,14 +7,26 @@
 --   upright ds        == that cell has P's own way up, and not the other
 --
 -- A path is a list of digits with its LAST digit first: a cell's parent is the rest of the list.
---
--- Assumes nothing.
 use Rattle.std.specs.Prelude.{Bool, true, not, List, [], ◌∷◌, ℕ}
 use Rattle.solids.specs.Triangles.{Corner, tip, lft, rgt}
+use Rattle.geometry.specs.declared.Digit.{Digit as DigitType}
+use Rattle.geometry.specs.declared.Digit.TheVariants.{Tip, Left, Centre, Right}
 use Rattle.geometry.specs.Weights.{◌⊕◌}
 
-pub data Digit : Type 0 where
-  d00 d01 d10 d11 : Digit
+abbrev pub Digit : Type 0
+Digit = DigitType
+
+pattern abbrev pub d00 : Digit
+d00 = Tip
+
+pattern abbrev pub d01 : Digit
+d01 = Left
+
+pattern abbrev pub d10 : Digit
+d10 = Centre
+
+pattern abbrev pub d11 : Digit
+d11 = Right
 
 abbrev pub Triangle : Type 0
 Triangle = Corner → List ℕ

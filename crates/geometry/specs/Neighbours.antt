@@ -3,8 +3,6 @@
 --
 --   Has s c n       == the cell n has both end corners of side s of the cell c, at whichever of its own corners
 --   Neighbour s c n == n is another cell of c's solid and depth that has them
---
--- Assumes nothing.
 use Rattle.std.specs.Prelude.{◌≢◌, ◌≡◌}
 use Rattle.solids.specs.Triangles.{Corner, Side, end₀, end₁}
 use Rattle.geometry.specs.Cells.{Cell, WellFormed, depth_of, corner}

@@ -4,8 +4,6 @@
 --   OnSide s P X == X lies on side s of the triangle P, one level down: it is the sum of the side's two ends, or of one of
 --                   them with itself
 --   Part s c     == side s of the cell c is part of side s of its parent
---
--- Assumes nothing.
 use Rattle.std.specs.Prelude.{Bool, true, false, List, ◌≡◌, ℕ}
 use Rattle.solids.specs.Triangles.{Corner, Side, end₀, end₁}
 use Rattle.geometry.specs.Weights.{◌⊕◌}

@@ -13,8 +13,6 @@
 --   new_face, new_path == the face and the path that a step leads to, by its way
 --   moved w s c        == the cell of that face and path
 --   step s c           == the cell that the step in direction s leads to from c
---
--- Assumes nothing.
 use Rattle.std.specs.Prelude.{Bool, true, false, ◌&&◌, not, List, [], ◌∷◌, map, ℕ, if◌then◌else◌}
 use Rattle.solids.specs.Triangles.{Side, left, right, vertical}
 use Rattle.solids.specs.Solids.{Solid, next_face, mirrored}
@@ -73,7 +71,7 @@ mirror d01 = d11
 mirror d10 = d10
 mirror d11 = d01
 
--- Document 02, request 3: "inside (0), straight seam (1) or mirrored seam (2), fixed by the tables of document 01".
+-- "inside (0), straight seam (1) or mirrored seam (2)"
 pub data Way : Type 0 where
   inside over_straight over_mirrored : Way
 

@@ -4,8 +4,6 @@
 --   unit n v == n weights, 1 at place v and 0 elsewhere
 --   δ v w    == what unit has at place w: 1 if v and w are equal, else 0
 --   total xs == the sum of all weights of a list
---
--- Assumes nothing.
 use Rattle.std.specs.Prelude.{List, [], ◌∷◌, ℕ, zero, suc, ◌+◌, replicate}
 
 infixl 65 ◌⊕◌

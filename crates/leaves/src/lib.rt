@@ -1,135 +1,129 @@
-// The leaves of a mesh in its slots: found, counted out, written, split and joined. Inner functions: callers have checked
-// that the slots hold a mesh, and know how many leaves it has.
+//! The leaves of a mesh: found, counted out, written into slots, split and joined there. C lends one slice, leaves first and then zeros:
+//! so what changes it is told how many leaves there are.
 
 #![tactic(auto)]
 
-ghost use Rattle.std.specs.Prelude.{◌≡◌, ◌+◌, ◌<◌, ◌≤◌, length, take, slice_index};
-ghost use Rattle.solids.specs.Solids.{Known};
-ghost use Rattle.codes.specs.Codes.{Code, depth};
+ghost use Rattle.std.specs.Prelude.{◌≡◌, ◌+◌, ◌<◌, ◌≤◌, length, slice_index};
+ghost use Rattle.solids.specs.Solids.{solid_no};
+ghost use Rattle.codes.specs.Codes.{IsCode, depth};
 ghost use Rattle.codes.specs.Places.{child_code};
 ghost use Rattle.soundness.specs.Leaves.{Ascends, leaves, pad};
-ghost use Rattle.soundness.specs.Changes.{fresh_leaves, refined, coarsened};
-ghost use Rattle.leaves.specs.Leaves.{Covered, Filled, LeafAt, FourAt, RunOf};
+ghost use Rattle.soundness.specs.Changes.{children, fresh_leaves, refined, coarsened};
+ghost use Rattle.leaves.specs.Leaves.{Covered, Filled, LeafAt, FourAt, RunAt};
 
-// A place among the leaves, or none.
-#[derive(Clone, Copy)]
-pub enum Found {
-    At(usize),
-    Nothing,
-}
+use codes::{Code, Fields};
+use geometry::Digit;
+use solids::Solid;
+use soundness::regions::Faces;
+use std::ops::Range;
 
-// The leaves from `from` on, up to `to`.
-#[derive(Clone, Copy)]
-pub struct Run {
-    pub from: usize,
-    pub to: usize,
-}
-
-// Where the code stands among the first `n` slots, which ascend.
-pub fn leaf_at(slots: &[u64], n: usize, code: u64) -> Found
-    requires { (n ≤ length slots.now) × Ascends (take n slots.now) }
-    ensures { LeafAt slots.now n code result }
+/// Where a code stands among the leaves.
+pub fn leaf_at(leaves: &[u64], code: u64) -> Option<usize>
+    requires { Ascends leaves.now }
+    ensures { LeafAt leaves.now code result }
 {
-    let i = slots::below(slots, n, code);
-    if i == n {
-        return Found::Nothing;
-    }
-    if slots[i] != code {
-        return Found::Nothing;
-    }
-    Found::At(i)
-}
-
-// Where the four children of a cell stand among the first `n` slots, the leaves of a mesh: side by side, or not all of them.
-pub fn four_at(slots: &[u64], n: usize, cell: u64) -> Found
-    requires { (n ≤ length slots.now) × Covered (take n slots.now) × Code cell × (depth cell < 26) }
-    ensures { FourAt slots.now n cell result }
-{
-    match leaf_at(slots, n, codes::child_of(cell, 0)) {
-        Found::At(i) => {
-            if n < i + 4 {
-                return Found::Nothing;
-            }
-            if slots[i + 1] != codes::child_of(cell, 1) {
-                return Found::Nothing;
-            }
-            if slots[i + 2] != codes::child_of(cell, 2) {
-                return Found::Nothing;
-            }
-            if slots[i + 3] != codes::child_of(cell, 3) {
-                return Found::Nothing;
-            }
-            Found::At(i)
-        }
-        Found::Nothing => Found::Nothing,
+    let at = slots::below(leaves, code);
+    if *leaves.get(at)? == code {
+        Some(at)
+    } else {
+        None
     }
 }
 
-// The leaves of a mesh, the first `n` slots, that are a cell of any solid or lie inside it. They stand side by side: a code
-// in the cell is at least the cell's own, and less than the first code after the cell.
-pub fn run_of(slots: &[u64], n: usize, cell: u64) -> Run
-    requires { (n ≤ length slots.now) × Covered (take n slots.now) × Code cell }
-    ensures { RunOf slots.now n cell result }
+// The four children of a cell, ascending.
+#[tactic(auto, using(codes::proofs::Places::child_place))]
+fn children(cell: Code) -> [u64; 4]
+    requires { depth cell < 26 }
+    ensures children { result ≡ children cell }
+    ensures code { IsCode cell }
 {
-    let depth = codes::depth_of(cell);
-    let past = cell - depth + (1 << (57 - 2 * depth));
-    Run {
-        from: slots::below(slots, n, cell),
-        to: slots::below(slots, n, past),
+    // That the cell is a code is told with its number.
+    let _number = cell.bits();
+    [
+        cell.child(Digit::Tip).bits(),
+        cell.child(Digit::Left).bits(),
+        cell.child(Digit::Centre).bits(),
+        cell.child(Digit::Right).bits(),
+    ]
+}
+
+/// Where the four children of a cell stand among the leaves: side by side, or not all of them.
+pub fn four_at(leaves: &[u64], cell: Code) -> Option<usize>
+    requires covered { Covered leaves.now }
+    requires depth { depth cell < 26 }
+    ensures { FourAt leaves.now cell result }
+{
+    let children = children(cell);
+    let at = leaf_at(leaves, children[0])?;
+    let four = leaves.get(at..at + 4)?;
+    if four == children.as_slice() {
+        Some(at)
+    } else {
+        None
     }
 }
 
-// How many faces of the solid are in the set.
-pub fn fresh_count(solid: u64, faces: u64) -> usize
-    requires { Known solid }
-    ensures { result ≡ length (fresh_leaves solid faces) }
+/// The leaves that are a cell of any solid or lie inside it. They stand side by side: a code in the cell is at least the cell's
+/// own, and less than the first code after the cell.
+pub fn run_of(leaves: &[u64], cell: Code) -> Range<usize>
+    requires { Covered leaves.now }
+    ensures { RunAt leaves.now cell result }
 {
-    let last = solids::faces_of(solid);
+    let depth = cell.depth();
+    let past = cell.bits() - depth + (1 << (57 - 2 * depth));
+    slots::below(leaves, cell.bits())..slots::below(leaves, past)
+}
+
+/// How many faces of the solid are in the set.
+pub fn fresh_count(solid: Solid, faces: Faces) -> usize
+    ensures { result ≡ length (fresh_leaves (solid_no solid) faces) }
+{
+    (0..solid.faces())
+        .filter(|&face| faces.contains(face))
+        .count()
+}
+
+/// Writes the faces of the set in order, and then zeros.
+pub fn fresh_into(slots: &mut [u64], solid: Solid, faces: Faces)
+    requires { length (fresh_leaves (solid_no solid) faces) ≤ length slots.old }
+    ensures { slots.new ≡ pad (length slots.old) (fresh_leaves (solid_no solid) faces) }
+{
+    // Counted by hand: where the faces end, the zeros begin.
     let mut count = 0;
-    let mut face = 0;
-    while face < last {
-        count += ((faces >> face) % 2) as usize;
-        face += 1;
-    }
-    count
-}
-
-// Writes the faces of the set in order, and then zeros.
-pub fn fresh_into(slots: &mut [u64], solid: u64, faces: u64)
-    requires { Known solid × (length (fresh_leaves solid faces) ≤ length slots.old) }
-    ensures { slots.new ≡ pad (length slots.old) (fresh_leaves solid faces) }
-{
-    let last = solids::faces_of(solid);
-    let mut n = 0;
-    let mut face = 0;
-    while face < last {
-        if (faces >> face) % 2 == 1 {
-            slots[n] = codes::join(solid, face, 0, 0);
-            n += 1;
+    for face in 0..solid.faces() {
+        if faces.contains(face) {
+            slots[count] = Fields {
+                solid: solid.number(),
+                face,
+                path: 0,
+                depth: 0,
+            }
+            .join();
+            count += 1;
         }
-        face += 1;
     }
-    slots::clear_from(slots, n);
+    slots::clear_from(slots, count);
 }
 
-// Splits the leaf at `at`: its four children stand in its place, and the later leaves move up three slots.
-pub fn split_leaf(slots: &mut [u64], n: usize, at: usize)
-    requires { Filled slots.old n × (n + 3 ≤ length slots.old) × (at < n) × Code (slice_index slots.old at) × (depth (slice_index slots.old at) < 26) }
-    ensures { slots.new ≡ pad (length slots.old) (refined (slice_index slots.old at) (leaves slots.old)) }
+/// Splits the leaf at `at`: its four children stand in its place, and the later leaves move up three slots.
+pub fn split_leaf(slots: &mut [u64], count: usize, at: usize, leaf: Code)
+    requires filled { Filled slots.old count }
+    requires room { count + 3 ≤ length slots.old }
+    requires at { at < count }
+    requires leaf { slice_index slots.old at ≡ leaf }
+    requires depth { depth leaf < 26 }
+    ensures { slots.new ≡ pad (length slots.old) (refined leaf (leaves slots.old)) }
 {
-    let code = slots[at];
-    let a = codes::child_of(code, 0);
-    let b = codes::child_of(code, 1);
-    let c = codes::child_of(code, 2);
-    let d = codes::child_of(code, 3);
-    slots::split(slots, at, n, a, b, c, d);
+    slots::split(slots, at, count, children(leaf));
 }
 
-// Joins the four leaves from `at` on, the children of the cell: they become that one leaf, and the later leaves move down
-// three slots. That they are the children is asked of the first alone: the others stand after it.
-pub fn join_leaves(slots: &mut [u64], n: usize, at: usize, cell: u64)
-    requires { Filled slots.old n × (at + 4 ≤ n) × (slice_index slots.old at ≡ child_code cell 0) }
+/// Joins the four leaves from `at` on, the children of the cell: they become that one leaf, and the later leaves move down
+/// three slots. That they are the children is asked of the first alone: the others stand after it.
+pub fn join_leaves(slots: &mut [u64], count: usize, at: usize, cell: u64)
+    requires filled { Filled slots.old count }
+    requires at { at + 4 ≤ count }
+    requires first { slice_index slots.old at ≡ child_code cell 0 }
     ensures { slots.new ≡ pad (length slots.old) (coarsened cell (leaves slots.old)) }
 {
-    slots::join(slots, at, n, cell);
+    slots::join(slots, at, count, cell);
 }

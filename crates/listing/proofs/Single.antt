@@ -1,5 +1,4 @@
 -- For each input there is one text: a line is of one form, a call has one answer, a side meets one thing.
--- Assumes nothing.
 use mathlib.Core.List.{List, [], ◌∷◌, ◌++◌}
 use mathlib.Core.Logic.{inl, inr}
 use mathlib.Core.Path.{◌≡◌, refl, ap, ap₂, sym, ◌∙◌, subst}

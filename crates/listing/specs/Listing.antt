@@ -16,8 +16,6 @@
 --   bare                 == 8,192 slots with nothing in them
 --   Goes xs bs t         == with the mesh in the slots xs, the bytes bs that are left print t
 --   Prints bs t          == the input bs prints t
---
--- Assumes nothing.
 use Rattle.std.specs.Prelude.{List, [], ◌∷◌, ◌++◌, ◌⊎◌, ◌≢◌, ◌≡◌, ℕ, zero, suc, ◌+◌, ◌^◌, ◌<◌, ◌≤◌, length, drop, replicate, if◌then◌else◌, nat_lt}
 use Rattle.text.specs.Text.{digits}
 use Rattle.soundness.specs.Regions.{all_faces}

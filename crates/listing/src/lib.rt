@@ -1,211 +1,198 @@
-// What `meshlist` prints, as one function from the bytes read to the bytes written. A page is where the text is put in.
+//! What `meshlist` prints, as one function from the bytes that are read to the page that is written. Text is put in by `push_str`: `write!`
+//! may fail, and nothing here can.
 
 #![tactic(auto)]
 
-ghost use Rattle.std.specs.Prelude.{List, ◌⊎◌, ◌≡◌, ℕ, ◌+◌, ◌*◌, ◌≤◌, length, take, drop};
+ghost use Rattle.std.specs.Prelude.{List, [], ◌++◌, ◌≡◌, ℕ, ◌+◌, ◌*◌, ◌≤◌, length};
+ghost use Rattle.arrayvec.specs.ArrayString.{array_string_len};
 ghost use Rattle.refusals.specs.Refusals.{Single};
-ghost use Rattle.refusals.specs.Answers.{Tells};
-ghost use Rattle.text.specs.Text.{Put};
-ghost use Rattle.soundness.specs.Leaves.{leaves};
+ghost use Rattle.refusals.specs.Answers.{unit_reply};
+ghost use Rattle.soundness.specs.Leaves.{Leaf, leaves};
 ghost use Rattle.soundness.specs.Soundness.{SoundIn};
-ghost use Rattle.sides.specs.Sides.{InMesh};
 ghost use Rattle.examine.specs.Examined.{whole_of};
-ghost use Rattle.mesh.specs.Calls.{Held};
-ghost use Rattle.listing.specs.Listing.{R, C, SolidFirst, unreadable, answer, difference, width, LeafLine, LeafLines, Goes, Prints};
+ghost use Rattle.listing.specs.Listing.{unreadable, answer, difference, width, LeafLine, LeafLines, Goes, Prints};
 ghost use Rattle.listing.specs.Lines.{SolidIs, OrderIs, Printed, Grown, Obeyed};
 
-use examine::Seen;
+use arrayvec::ArrayString;
+use codes::Code;
+use refusals::Refusal;
+use solids::Side;
 use soundness::Met;
-use text::Reading;
+use soundness::meshes::Mesh;
 
 // The most bytes that are read as an input.
 const INPUT: usize = 4096;
 
-// As many bytes as any input can print: 26 for each of 8,192 leaves, and no more for the answers than the input has.
+/// As many bytes as any input can print: 26 for each of 8,192 leaves, and no more for the answers than the input has.
 pub const PAGE: usize = 217088;
 
-fn put_unreadable(page: &mut [u8], at: usize) -> usize
-    requires { at + 11 ≤ length page.old }
-    ensures { Put page.old page.new at result unreadable }
+/// What a line of the input asks for: to refine a leaf, or to coarsen to a cell.
+#[derive(Clone, Copy, Debug, PartialEq, Eq)]
+enum Order {
+    Refine(u64),
+    Coarsen(u64),
+}
+
+fn put_unreadable(page: &mut ArrayString<PAGE>)
+    requires { array_string_len page.old + 11 ≤ PAGE }
+    ensures { page.new.bytes ≡ page.old.bytes ++ unreadable }
 {
-    text::put(page, at, b"unreadable\n")
+    page.push_str("unreadable\n");
 }
 
 // How many digits a refusal's number has.
 fn width(number: u64) -> usize
-    ensures { result ≡ width number }
+    ensures value { result ≡ width number }
+    ensures upper_bound { result ≤ 2 }
 {
     if number < 10 { 1 } else { 2 }
 }
 
 // What a call prints: nothing when it is done.
-fn put_answer(page: &mut [u8], at: usize, number: u64) -> usize
-    requires { at + 11 ≤ length page.old }
-    ensures { Put page.old page.new at result (answer number) }
+fn put_answer(page: &mut ArrayString<PAGE>, change: Result<(), Refusal>)
+    requires { array_string_len page.old + 11 ≤ PAGE }
+    ensures { page.new.bytes ≡ page.old.bytes ++ answer (unit_reply change).number }
 {
-    if number == 0 {
-        return at;
+    if let Err(refusal) = change {
+        let number = refusal.number();
+        page.push_str("refused ");
+        text::put_digits(page, 10, width(number), number);
+        page.push_str("\n");
     }
-    let word = text::put(page, at, b"refused ");
-    let line = text::put_digits(page, word, 10, width(number), number);
-    text::put(page, line, b"\n")
 }
 
 // The level of what a side meets, less the leaf's own.
-fn put_difference(page: &mut [u8], at: usize, met: Met) -> usize
-    requires { at + 3 ≤ length page.old }
-    ensures { Put page.old page.new at result (difference met) }
+fn difference(met: Met) -> &'static str
+    ensures value { result.now ≡ difference met }
+    ensures upper_bound { length result.now ≤ 3 }
 {
     match met {
-        Met::Larger(_) => text::put(page, at, b" -1"),
-        Met::Equal(_) => text::put(page, at, b" 0"),
-        Met::Smaller(_, _) => text::put(page, at, b" 1"),
-        Met::Open => text::put(page, at, b" 0"),
+        Met::Larger(_) => " -1",
+        Met::Equal(_) => " 0",
+        Met::Smaller(_, _) => " 1",
+        Met::Open => " 0",
     }
 }
 
-fn put_leaf(page: &mut [u8], at: usize, slots: &[u64], n: usize, faces: u64, leaf: u64) -> usize
-    requires { (at + 26 ≤ length page.old) × (n ≤ length slots.now) × InMesh (take n slots.now) faces leaf }
-    ensures printed { Printed (LeafLine (take n slots.now) leaf) page.old page.new at result }
-    ensures upper_bound { result ≤ at + 26 }
+fn put_leaf(page: &mut ArrayString<PAGE>, mesh: &Mesh<'_>, leaf: Code)
+    requires room { array_string_len page.old + 26 ≤ PAGE }
+    requires leaf { Leaf mesh.now.leaves leaf }
+    ensures printed { Printed (LeafLine mesh.now.leaves leaf) page.old.bytes page.new.bytes }
+    ensures upper_bound { array_string_len page.new ≤ array_string_len page.old + 26 }
 {
-    let code = text::put_digits(page, at, 16, 16, leaf);
-    let left = put_difference(page, code, sides::side_of(slots, n, faces, leaf, 0));
-    let right = put_difference(page, left, sides::side_of(slots, n, faces, leaf, 1));
-    let vertical = put_difference(page, right, sides::side_of(slots, n, faces, leaf, 2));
-    text::put(page, vertical, b"\n")
+    text::put_digits(page, 16, 16, leaf.bits());
+    page.push_str(difference(sides::side_of(mesh, leaf, Side::Left)));
+    page.push_str(difference(sides::side_of(mesh, leaf, Side::Right)));
+    page.push_str(difference(sides::side_of(mesh, leaf, Side::Vertical)));
+    page.push_str("\n");
 }
 
 // The list of all leaves.
-fn put_leaves(page: &mut [u8], at: usize, slots: &[u64], n: usize) -> usize
-    requires { (at + 26 * n ≤ length page.old) × Held slots.now n }
-    ensures { Printed (LeafLines (take n slots.now) (take n slots.now)) page.old page.new at result }
+fn put_leaves(page: &mut ArrayString<PAGE>, mesh: &Mesh<'_>)
+    requires { array_string_len page.old + 26 * length mesh.now.leaves ≤ PAGE }
+    ensures printed { Printed (LeafLines mesh.now.leaves mesh.now.leaves) page.old.bytes page.new.bytes }
+    ensures upper_bound { array_string_len page.new ≤ array_string_len page.old + 26 * length mesh.now.leaves }
 {
-    let faces = mesh::faces_in(slots);
-    let mut end = at;
-    let mut i = 0;
-    while i < n {
-        end = put_leaf(page, end, slots, n, faces, slots[i]);
-        i += 1;
-    }
-    end
-}
-
-// The list of the mesh in the slots. It is sound, so only the last arm is ever taken.
-fn put_list(page: &mut [u8], at: usize, slots: &[u64]) -> usize
-    requires { (at + 26 * 8192 ≤ length page.old) × SoundIn (whole_of slots.now) slots.now }
-    ensures { Printed (LeafLines (leaves slots.now) (leaves slots.now)) page.old page.new at result }
-{
-    match examine::examine(slots) {
-        Seen::Long => at,
-        Seen::Unsound => at,
-        Seen::Leaves(n) => put_leaves(page, at, slots, n),
+    let leaves = mesh.codes();
+    for &leaf in leaves {
+        put_leaf(page, mesh, Code::new(leaf));
     }
 }
 
-fn is_order(letter: u8) -> bool
-    ensures { Tells result ((letter ≡ R) ⊎ (letter ≡ C)) }
+// The list of the mesh in the slots. It is sound, so it is never refused.
+fn put_list(page: &mut ArrayString<PAGE>, slots: &[u64])
+    requires room { array_string_len page.old + 26 * 8192 ≤ PAGE }
+    requires sound { SoundIn (whole_of slots.now) slots.now }
+    ensures printed { Printed (LeafLines (leaves slots.now) (leaves slots.now)) page.old.bytes page.new.bytes }
+    ensures upper_bound { array_string_len page.new ≤ array_string_len page.old + 26 * 8192 }
 {
-    letter == b'R' || letter == b'C'
+    if let Ok(mesh) = examine::examine(slots) {
+        put_leaves(page, &mesh);
+    }
 }
 
-// The code of the order line that begins at a place.
-fn order_at(input: &[u8], at: usize) -> Reading
-    requires { at ≤ length input.now }
-    ensures { OrderIs (drop at input.now) result }
+// The order that a line is.
+fn order_of(line: &[u8]) -> Option<Order>
+    requires { length line.now ≤ 19 }
+    ensures { OrderIs line.now result }
 {
-    if input.len() - at < 19 {
-        return Reading::Other;
+    if line.len() < 19 {
+        return None;
     }
-    if !is_order(input[at]) {
-        return Reading::Other;
+    let [letter, b' ', digits @ .., b'\n'] = line else {
+        return None;
+    };
+    let code = text::read_hex(digits)?;
+    match letter {
+        b'R' => Some(Order::Refine(code)),
+        b'C' => Some(Order::Coarsen(code)),
+        _ => None,
     }
-    if input[at + 1] != b' ' {
-        return Reading::Other;
-    }
-    if input[at + 18] != b'\n' {
-        return Reading::Other;
-    }
-    text::read_hex(input, at + 2)
 }
 
 // Does an order, and puts in what it prints.
-fn obey(page: &mut [u8], at: usize, slots: &mut [u64], letter: u8, code: u64) -> usize
-    requires { (at + 11 ≤ length page.old) × ((letter ≡ R) ⊎ (letter ≡ C)) }
-    ensures { Obeyed letter code slots.old slots.new page.old page.new at result }
+fn obey(page: &mut ArrayString<PAGE>, slots: &mut [u64], order: Order)
+    requires { array_string_len page.old + 11 ≤ PAGE }
+    ensures { Obeyed order slots.old slots.new page.old.bytes page.new.bytes }
 {
-    if letter == b'R' {
-        put_answer(page, at, mesh::in_parts(mesh::refine(slots, code)).number)
-    } else {
-        put_answer(page, at, mesh::in_parts(mesh::coarsen(slots, code)).number)
+    match order {
+        Order::Refine(leaf) => put_answer(page, mesh::refine(slots, leaf)),
+        Order::Coarsen(cell) => put_answer(page, mesh::coarsen(slots, cell)),
     }
 }
 
-// Does the orders, which begin after the solid line, and lists the mesh that they leave.
-fn obey_all(page: &mut [u8], slots: &mut [u64], input: &[u8]) -> usize
-    requires { (217088 ≤ length page.old) × Grown slots.old × (length input.now ≤ 4096) × (2 ≤ length input.now) }
-    ensures goes { Goes slots.old (drop 2 input.now) (take result page.new) }
-    ensures upper_bound { result ≤ length page.new }
+// Does the orders, a line after the other, and lists the mesh that they leave.
+fn obey_all(page: &mut ArrayString<PAGE>, slots: &mut [u64], orders: &[u8])
+    requires empty { page.old.bytes ≡ [] }
+    requires grown { Grown slots.old }
+    requires short { length orders.now ≤ 4096 }
+    ensures goes { Goes slots.old orders.now page.new.bytes }
+    ensures upper_bound { array_string_len page.new ≤ PAGE }
 {
-    let mut end = 0;
-    let mut at = 2;
-    while at < input.len() {
-        match order_at(input, at) {
-            Reading::Number(code) => end = obey(page, end, slots, input[at], code),
-            Reading::Other => return put_unreadable(page, end),
-        }
-        at += 19;
+    for line in orders.chunks(19) {
+        let Some(order) = order_of(line) else {
+            put_unreadable(page);
+            return;
+        };
+        obey(page, slots, order);
     }
-    put_list(page, end, slots)
+    put_list(page, slots);
 }
 
 // The digit of the solid line.
-fn solid_first(input: &[u8]) -> Reading
+fn solid_first(input: &[u8]) -> Option<u64>
     ensures { SolidIs input.now result }
 {
-    if input.len() < 2 {
-        return Reading::Other;
-    }
-    if input[1] != b'\n' {
-        return Reading::Other;
-    }
-    match input[0] {
-        48..=57 => Reading::Number(input[0] as u64 - 48),
-        _ => Reading::Other,
+    match input {
+        [digit @ b'0'..=b'9', b'\n', ..] => Some(u64::from(digit - b'0')),
+        _ => None,
     }
 }
 
-// Puts in what is printed for an input, and answers where it ends.
-pub fn list(page: &mut [u8; PAGE], input: &[u8]) -> usize
-    ensures prints { Prints input.now (take result page.new) }
-    ensures upper_bound { result ≤ length page.new }
+/// Clears the page, and puts in what is printed for an input.
+pub fn list(page: &mut ArrayString<PAGE>, input: &[u8])
+    ensures prints { Prints input.now page.new.bytes }
+    ensures upper_bound { array_string_len page.new ≤ PAGE }
 {
+    page.clear();
     if INPUT < input.len() {
-        return put_unreadable(page, 0);
+        put_unreadable(page);
+        return;
     }
-    match solid_first(input) {
-        Reading::Other => put_unreadable(page, 0),
-        Reading::Number(solid) => list_solid(page, input, solid),
+    let Some(solid) = solid_first(input) else {
+        put_unreadable(page);
+        return;
+    };
+    let mut slots = [0; 8192];
+    match mesh::fresh(&mut slots, solid) {
+        Ok(()) => obey_all(page, &mut slots, &input[2..]),
+        Err(refusal) => put_answer(page, Err(refusal)),
     }
 }
 
-// The same for an input that is not too long and begins with the line of a digit.
-fn list_solid(page: &mut [u8], input: &[u8], solid: u64) -> usize
-    requires { (217088 ≤ length page.old) × (length input.now ≤ 4096) × SolidFirst input.now solid }
-    ensures prints { Prints input.now (take result page.new) }
-    ensures upper_bound { result ≤ length page.new }
-{
-    let mut slots = [0u64; 8192];
-    let number = mesh::in_parts(mesh::fresh(&mut slots, solid)).number;
-    if number != 0 {
-        return put_answer(page, 0, number);
-    }
-    obey_all(page, &mut slots, input)
-}
+// A theorem. Its function has an empty body and stands for what it ensures, so that the gate asks for it by name.
 
-// Theorem. The function has an empty body and stands for what it ensures, so that the gate asks for it by name.
-
-// Each input prints one text.
+/// Each input prints one text.
 pub fn each_input_prints_one_text()
     ensures { (bytes : List ℕ) → Single (Prints bytes) }
 {}

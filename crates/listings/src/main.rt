@@ -1,19 +1,18 @@
-// What `listing` prints for chosen inputs, a line `--` after each: document 01's example, every refusal that a line can have,
-// and every form of a line that is none.
+//! What `listing` prints for chosen inputs, a line `--` after each: a mesh with one leaf refined, every refusal that a line can
+//! have, and every form of a line that is none.
 
 #![tactic(auto)]
 
-use show::text;
+use arrayvec::ArrayString;
 use std::io;
 
 fn list(rt: &impl Print, input: &[u8]) -> io::Result<()> {
-    let mut page = [0u8; listing::PAGE];
-    let end = listing::list(&mut page, input);
-    text(rt, &page[..end])?;
-    text(rt, b"--\n")
+    let mut page = ArrayString::new();
+    listing::list(&mut page, input);
+    println!(rt; "{page}--")
 }
 
-// Accepted: document 01's example, each solid alone, a cell refined and coarsened again, a second level.
+// Accepted: one leaf refined, each solid alone, a cell refined and coarsened again, a second level.
 fn accepted(rt: &impl Print) -> io::Result<()> {
     list(rt, b"1\nR 4000000000000000\n")?;
     list(rt, b"1\n")?;
@@ -41,7 +40,7 @@ fn refused(rt: &impl Print) -> io::Result<()> {
     )?;
     // 7: no children at depth 26
     list(rt, b"1\nC 400000000000001a\nR 400000000000001a\n")?;
-    // 14: a larger leaf in the way of a refine; bench case 12, a smaller one in the way of a coarsen
+    // 14: a larger leaf in the way of a refine; a smaller one in the way of a coarsen
     list(rt, b"1\nR 4000000000000000\nR 4000000000000001\n")?;
     list(
         rt,

@@ -16,7 +16,7 @@ use lib.ListN.{length}
 use Rattle.refusals.specs.Refusals.{SOLID, BUFFER, ROOM}
 use Rattle.refusals.specs.Answers.{done}
 use Rattle.refusals.proofs.Refusals.{met}
-use Rattle.codes.specs.Codes.{solid, depth, Code, code_faults}
+use Rattle.codes.specs.Codes.{solid, depth, IsCode, code_faults}
 use Rattle.codes.specs.Places.{CodeOn, child_code}
 use Rattle.codes.proofs.Places.{code_on_solid, solid_is}
 use Rattle.soundness.specs.Regions.{FaceSet}
@@ -65,7 +65,7 @@ module _ (S Q : ℕ) (xs : List ℕ) (o : Outcome) (s : Sound S Q xs) where
   or_kept (inl h) f = left xs (slots_same h.1) s
   or_kept (inr h) f = f h.0 h.1
 
-  code_or_kept : (c : ℕ) (rest : Outcome → Type 0) → code_faults (kept xs) c rest o → (Code c → rest o → Still) → Still
+  code_or_kept : (c : ℕ) (rest : Outcome → Type 0) → code_faults (kept xs) c rest o → (IsCode c → rest o → Still) → Still
   code_or_kept c rest h f =
       or_kept h (λ known h₁. or_kept h₁ (λ on h₂. or_kept h₂ (λ deep h₃. or_kept h₃ (λ tail r.
       f (record { known = known; on = on; deep = deep; tail = tail }) r))))
@@ -106,7 +106,7 @@ module _ (S Q : ℕ) (xs : List ℕ) (o : Outcome) (s : Sound S Q xs) where
       made Q' (pad (length xs) (coarsened c (leaves xs))) e s' (coarsening_keeps S Q' c xs s' w deep four free)))))))
     where
       -- the solid of a cell whose first child is a leaf
-      on_solid : (c : ℕ) → Code c → depth c < 26 → Leaf (leaves xs) (child_code c 0) → CodeOn S c
+      on_solid : (c : ℕ) → IsCode c → depth c < 26 → Leaf (leaves xs) (child_code c 0) → CodeOn S c
       on_solid c code d m =
           let w = code_on_solid c code in
           let k = child_code c 0 in

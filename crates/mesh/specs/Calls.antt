@@ -8,33 +8,24 @@
 --   BoundsOf Q xs c p         == p is the answer for where the run under the cell c starts and how many leaves it has
 --   RunOf Q xs c ys           == ys are the slots of the run under the cell c
 --   CountOf Q xs c r          == r is the reply for the number of leaves in that run
---   Held xs n                 == the slots hold a sound whole mesh of n leaves: what an inner function rests on
 --   kept xs k                 == the outcome of a refusal: its number, and the slots as they were
---   mesh_faults               == what every call on a mesh asks first
 --   unless_blocked, BlockedBy == a change is stopped by the least leaf in its way, or goes on
 --   refine_end, refine_leaf_end, coarsen_end, coarsen_leaves_end, across_end, bounds_end == what is asked from a point in the sequence on
 --   Crossed xs c s a          == a are the parts of what side s of the leaf c meets
 --   Bounded xs c p            == p is where the run under c starts and how many leaves it has, and the part of the slots holds them
 --   come_before, start_of     == how many leaves come before the run; where it starts, 0 if it is empty
---
--- Assumes nothing.
 use Rattle.std.specs.Prelude.{List, [], ◌∷◌, ◌⊎◌, ◌≡◌, ℕ, ◌+◌, ◌<◌, ◌≤◌, length, take, drop, if◌then◌else◌, ◌==◌, nat_lt}
 use Rattle.solids.specs.Solids.{Known}
-use Rattle.refusals.specs.Refusals.{SOLID, DIRECTION, DEEP, BUFFER, MESH, NOT_LEAF, NOT_FOUR, ROOM, need}
+use Rattle.refusals.specs.Refusals.{SOLID, DIRECTION, DEEP, BUFFER, NOT_LEAF, NOT_FOUR, ROOM, need}
 use Rattle.refusals.specs.Answers.{Reply, done, refused}
 use Rattle.codes.specs.Codes.{depth, code_faults}
 use Rattle.codes.specs.Places.{child_code}
 use Rattle.soundness.specs.Leaves.{Leaf, leaves, pad}
-use Rattle.soundness.specs.Soundness.{SoundIn}
 use Rattle.soundness.specs.Changes.{fresh_leaves, refined, coarsened, under}
 use Rattle.soundness.specs.Sides.{MetIs, BlocksRefine, BlocksCoarsen, Some, LeastOf}
 use Rattle.soundness.specs.declared.Met.{Met}
-use Rattle.examine.specs.Examined.{whole_of}
+use Rattle.examine.specs.Examined.{mesh_faults}
 use Rattle.mesh.specs.Answers.{Outcome, outcome, blocked, Crossing, crossing, not_crossed, Part, part, no_bounds}
-
-pub record Held (xs : List ℕ) (n : ℕ) : Type 0 where
-  pub sound : SoundIn (whole_of xs) xs
-  pub count : n ≡ length (leaves xs)
 
 -- "A refusal [..] writes nothing."
 abbrev pub kept : List ℕ → ℕ → Outcome
@@ -48,10 +39,6 @@ pub record BlockedBy (xs : List ℕ) (P : ℕ → Type 0) (o : Outcome) : Type 0
 
 abbrev pub unless_blocked : List ℕ → (ℕ → Type 0) → (Outcome → Type 0) → Outcome → Type 0
 unless_blocked xs P rest o = BlockedBy xs P o ⊎ ((Some P → ⊥) × rest o)
-
--- every call on a mesh begins so: 10, 11
-abbrev pub mesh_faults : {A : Type 0} → (ℕ → A) → ℕ → List ℕ → (A → Type 0) → A → Type 0
-mesh_faults out Q xs rest = need (length xs ≤ 8192) (out BUFFER) (need (SoundIn Q xs) (out MESH) rest)
 
 -- "Fresh: 10, 1, 15": "all faces of a solid in order, zeros after"
 abbrev pub Freshened : ℕ → ℕ → List ℕ → Outcome → Type 0

@@ -4,8 +4,6 @@
 --                   and the faces of the last accepted call that made the mesh anew
 --
 -- Calls that lend the slice for reading write nothing, by their type, and are left out.
---
--- Assumes nothing.
 use Rattle.std.specs.Prelude.{List, ◌≢◌, ◌≡◌, ℕ}
 use Rattle.soundness.specs.Regions.{FaceSet}
 use Rattle.mesh.specs.Answers.{Outcome}

@@ -1,143 +1,133 @@
-// The calls on a mesh, on chosen slots: sound meshes of the three solids, ones with a single damage, and slices that are too
-// short or too long. A line is the call, what it was given and what it answered, in hexadecimal: the number, the value, and
-// after a colon the slots as the call left them, or the part of them that it handed out.
+//! The calls on a mesh, on chosen slots: sound meshes of the three solids, ones with a single damage, and slices that are too
+//! short or too long. A line is the call, what it was given and what it answered, in hexadecimal: the number, the value, and
+//! after a colon the slots as the call left them, or the part of them that it handed out.
 
 #![tactic(auto)]
 
 ghost use Rattle.std.specs.Prelude.{◌<◌};
 
-use mesh::{Change, Counted, Facing};
-use show::{shown, text};
+use refusals::Refusal;
+use solids::Solid;
 use soundness::Met;
-use std::io;
+use soundness::regions::Faces;
+use std::fmt::Write;
+use std::{fmt, io};
+use tiling::Tiles;
 
-fn slots_shown(rt: &impl Print, slots: &[u64]) -> io::Result<()> {
-    for i in 0..slots.len() {
-        shown(rt, slots[i])?;
+// Slots in hexadecimal, each after a space.
+#[derive(Clone, Copy)]
+struct Slots<'a>(&'a [u64]);
+
+impl fmt::Display for Slots<'_> {
+    fn fmt<W: fmt::Write>(&self, f: &mut fmt::Formatter<W>) -> fmt::Result {
+        for slot in self.0 {
+            write!(f, " {slot:x}")?;
+        }
+        Ok(())
+    }
+}
+
+// The number and the value of what a change answered.
+#[derive(Clone, Copy)]
+struct Answer(Result<(), Refusal>);
+
+impl fmt::Display for Answer {
+    fn fmt<W: fmt::Write>(&self, f: &mut fmt::Formatter<W>) -> fmt::Result {
+        match self.0 {
+            Ok(()) => f.write_str("0 0"),
+            Err(refusal) => write!(f, "{:x} {:x}", refusal.number(), refusal.value()),
+        }
+    }
+}
+
+// The level difference and the leaves of what a side meets.
+#[derive(Clone, Copy)]
+struct Beside(Met);
+
+impl fmt::Display for Beside {
+    fn fmt<W: fmt::Write>(&self, f: &mut fmt::Formatter<W>) -> fmt::Result {
+        match self.0 {
+            Met::Larger(leaf) => write!(f, "-1 {leaf:x}"),
+            Met::Equal(leaf) => write!(f, "0 {leaf:x}"),
+            Met::Smaller(one, other) => write!(f, "1 {one:x} {other:x}"),
+            Met::Open => f.write_str("open"),
+        }
+    }
+}
+
+fn fresh(rt: &impl Print, slots: &mut [u64], solid: u64) -> io::Result<()> {
+    let answer = Answer(mesh::fresh(slots, solid));
+    println!(rt; "fresh {solid:x} -> {answer} :{}", Slots(slots))
+}
+
+fn refine(rt: &impl Print, slots: &mut [u64], leaf: u64) -> io::Result<()> {
+    let answer = Answer(mesh::refine(slots, leaf));
+    println!(rt; "refine {leaf:x} -> {answer} :{}", Slots(slots))
+}
+
+fn coarsen(rt: &impl Print, slots: &mut [u64], cell: u64) -> io::Result<()> {
+    let answer = Answer(mesh::coarsen(slots, cell));
+    println!(rt; "coarsen {cell:x} -> {answer} :{}", Slots(slots))
+}
+
+fn across(rt: &impl Print, slots: &[u64], leaf: u64, direction: u64) -> io::Result<()> {
+    match mesh::across(slots, leaf, direction) {
+        Ok(met) => println!(rt; "across {leaf:x} {direction:x} -> 0 {}", Beside(met)),
+        Err(refusal) => {
+            let number = refusal.number();
+            println!(rt; "across {leaf:x} {direction:x} -> {number:x}")
+        }
+    }
+}
+
+fn sides(rt: &impl Print, slots: &[u64], leaf: u64) -> io::Result<()> {
+    for direction in 0..3 {
+        across(rt, slots, leaf, direction)?;
     }
     Ok(())
 }
 
-fn answered(rt: &impl Print, number: u64, value: u64) -> io::Result<()> {
-    text(rt, b" ->")?;
-    shown(rt, number)?;
-    shown(rt, value)
-}
-
-fn change_shown(rt: &impl Print, change: Change) -> io::Result<()> {
-    let answer = mesh::in_parts(change);
-    answered(rt, answer.number, answer.value)
-}
-
-fn left_shown(rt: &impl Print, slots: &[u64]) -> io::Result<()> {
-    text(rt, b" :")?;
-    slots_shown(rt, slots)?;
-    text(rt, b"\n")
-}
-
-fn fresh(rt: &impl Print, slots: &mut [u64], solid: u64) -> io::Result<()> {
-    text(rt, b"fresh")?;
-    shown(rt, solid)?;
-    change_shown(rt, mesh::fresh(slots, solid))?;
-    left_shown(rt, slots)
-}
-
-fn refine(rt: &impl Print, slots: &mut [u64], leaf: u64) -> io::Result<()> {
-    text(rt, b"refine")?;
-    shown(rt, leaf)?;
-    change_shown(rt, mesh::refine(slots, leaf))?;
-    left_shown(rt, slots)
-}
-
-fn coarsen(rt: &impl Print, slots: &mut [u64], cell: u64) -> io::Result<()> {
-    text(rt, b"coarsen")?;
-    shown(rt, cell)?;
-    change_shown(rt, mesh::coarsen(slots, cell))?;
-    left_shown(rt, slots)
-}
-
-fn met_shown(rt: &impl Print, met: Met) -> io::Result<()> {
-    match met {
-        Met::Larger(leaf) => {
-            text(rt, b" -1")?;
-            shown(rt, leaf)
-        }
-        Met::Equal(leaf) => {
-            text(rt, b" 0")?;
-            shown(rt, leaf)
-        }
-        Met::Smaller(one, other) => {
-            text(rt, b" 1")?;
-            shown(rt, one)?;
-            shown(rt, other)
-        }
-        Met::Open => text(rt, b" open"),
-    }
-}
-
-fn across(rt: &impl Print, slots: &[u64], leaf: u64, direction: u64) -> io::Result<()> {
-    text(rt, b"across")?;
-    shown(rt, leaf)?;
-    shown(rt, direction)?;
-    text(rt, b" ->")?;
-    match mesh::across(slots, leaf, direction) {
-        Facing::Side(met) => {
-            shown(rt, 0)?;
-            met_shown(rt, met)?;
-        }
-        Facing::Refused(k) => shown(rt, k)?,
-    }
-    text(rt, b"\n")
-}
-
-fn sides(rt: &impl Print, slots: &[u64], leaf: u64) -> io::Result<()> {
-    across(rt, slots, leaf, 0)?;
-    across(rt, slots, leaf, 1)?;
-    across(rt, slots, leaf, 2)
-}
-
 fn run(rt: &impl Print, slots: &[u64], cell: u64) -> io::Result<()> {
-    text(rt, b"run")?;
-    shown(rt, cell)?;
-    match mesh::count(slots, cell) {
-        Counted::Leaves(count) => answered(rt, 0, count as u64)?,
-        Counted::Refused(k) => answered(rt, k, 0)?,
-    }
-    left_shown(rt, mesh::run(slots, cell))
+    let (number, count) = match mesh::count(slots, cell) {
+        Ok(count) => (0, count),
+        Err(refusal) => (refusal.number(), 0),
+    };
+    let leaves = Slots(mesh::run(slots, cell));
+    println!(rt; "run {cell:x} -> {number:x} {count:x} :{leaves}")
 }
 
 fn sound(rt: &impl Print, slots: &[u64]) -> io::Result<()> {
-    text(rt, b"sound")?;
-    slots_shown(rt, slots)?;
-    text(rt, b" ->")?;
-    shown(rt, if mesh::sound(slots) { 1 } else { 0 })?;
-    text(rt, b"\n")
+    println!(rt;
+        "sound{} -> {}",
+        Slots(slots),
+        u64::from(mesh::sound(slots))
+    )
 }
 
 // Making a mesh over slots that hold something else.
 fn making(rt: &impl Print) -> io::Result<()> {
-    let mut four = [7u64; 9];
+    let mut four = [7; 9];
     fresh(rt, &mut four, 0)?;
     fresh(rt, &mut four, 4)?;
     fresh(rt, &mut four, 257)?;
     fresh(rt, &mut four, 3)?;
     fresh(rt, &mut four, 1)?;
     fresh(rt, &mut four, 2)?;
-    let mut three = [7u64; 3];
+    let mut three = [7; 3];
     fresh(rt, &mut three, 0)?;
     fresh(rt, &mut three, 1)?;
-    let mut twenty = [7u64; 22];
+    let mut twenty = [7; 22];
     fresh(rt, &mut twenty, 3)?;
-    let mut less = [7u64; 19];
+    let mut less = [7; 19];
     fresh(rt, &mut less, 3)?;
-    let mut none = [0u64; 0];
+    let mut none = [0; 0];
     fresh(rt, &mut none, 1)?;
     sound(rt, &none)
 }
 
 // The tetrahedron with its first face refined, and every side of every leaf.
 fn listing(rt: &impl Print) -> io::Result<()> {
-    let mut m = [7u64; 9];
+    let mut m = [7; 9];
     fresh(rt, &mut m, 1)?;
     refine(rt, &mut m, 0x4000_0000_0000_0000)?;
     sound(rt, &m)?;
@@ -150,9 +140,9 @@ fn listing(rt: &impl Print) -> io::Result<()> {
     sides(rt, &m, 0x4600_0000_0000_0000)
 }
 
-// Bench cases 9 to 11: the mesh of the listing in 9 slots and in 10.
+// The mesh of the listing in 9 slots and in 10: refines that are blocked or have no room, and a coarsen.
 fn cases_9_to_11(rt: &impl Print) -> io::Result<()> {
-    let mut m = [0u64; 9];
+    let mut m = [0; 9];
     fresh(rt, &mut m, 1)?;
     refine(rt, &mut m, 0x4000_0000_0000_0000)?;
     refine(rt, &mut m, 0x4000_0000_0000_0001)?;
@@ -160,7 +150,7 @@ fn cases_9_to_11(rt: &impl Print) -> io::Result<()> {
     refine(rt, &mut m, 0x4180_0000_0000_0001)?;
     refine(rt, &mut m, 0x4100_0000_0000_0001)?;
     coarsen(rt, &mut m, 0x4000_0000_0000_0000)?;
-    let mut ten = [0u64; 10];
+    let mut ten = [0; 10];
     fresh(rt, &mut ten, 1)?;
     refine(rt, &mut ten, 0x4000_0000_0000_0000)?;
     refine(rt, &mut ten, 0x4100_0000_0000_0001)?;
@@ -170,9 +160,9 @@ fn cases_9_to_11(rt: &impl Print) -> io::Result<()> {
     refine(rt, &mut ten, 0x4200_0000_0000_0000)
 }
 
-// Bench case 12, with room for more.
+// Coarsens with a smaller leaf in the way, and with room for more.
 fn case_12(rt: &impl Print) -> io::Result<()> {
-    let mut m = [0u64; 26];
+    let mut m = [0; 26];
     fresh(rt, &mut m, 1)?;
     refine(rt, &mut m, 0x4600_0000_0000_0000)?;
     refine(rt, &mut m, 0x4400_0000_0000_0000)?;
@@ -191,7 +181,7 @@ fn case_12(rt: &impl Print) -> io::Result<()> {
 
 // Coarsens of the first face: a smaller leaf beside its first child alone, beside its fourth alone, and its fourth divided.
 fn one_child_blocked(rt: &impl Print) -> io::Result<()> {
-    let mut m = [0u64; 19];
+    let mut m = [0; 19];
     fresh(rt, &mut m, 1)?;
     refine(rt, &mut m, 0x4000_0000_0000_0000)?;
     refine(rt, &mut m, 0x4200_0000_0000_0000)?;
@@ -217,7 +207,7 @@ fn every(rt: &impl Print, slots: &mut [u64], cell: u64, direction: u64) -> io::R
 
 // Codes at fault, directions, and cells that are no leaf here.
 fn faults(rt: &impl Print) -> io::Result<()> {
-    let mut m = [0u64; 7];
+    let mut m = [0; 7];
     fresh(rt, &mut m, 1)?;
     refine(rt, &mut m, 0x4000_0000_0000_0000)?;
     // no solid, whatever else
@@ -244,7 +234,7 @@ fn faults(rt: &impl Print) -> io::Result<()> {
 
 // The runs under cells of a mesh of three depths.
 fn runs(rt: &impl Print) -> io::Result<()> {
-    let mut m = [0u64; 13];
+    let mut m = [0; 13];
     fresh(rt, &mut m, 1)?;
     refine(rt, &mut m, 0x4200_0000_0000_0000)?;
     refine(rt, &mut m, 0x4300_0000_0000_0001)?;
@@ -263,11 +253,12 @@ fn runs(rt: &impl Print) -> io::Result<()> {
 
 // The mesh of the listing in 9 slots, with two slots written over.
 fn damaged(rt: &impl Print, one: usize, x: u64, other: usize, y: u64) -> io::Result<()>
-    requires { (one < 9) × (other < 9) }
+    requires one { one < 9 }
+    requires other { other < 9 }
 {
-    let mut m = [0u64; 9];
-    mesh::fresh(&mut m, 1);
-    mesh::refine(&mut m, 0x4000_0000_0000_0000);
+    let mut m = [0; 9];
+    let _ = mesh::fresh(&mut m, 1);
+    let _ = mesh::refine(&mut m, 0x4000_0000_0000_0000);
     m[one] = x;
     m[other] = y;
     sound(rt, &m)?;
@@ -308,13 +299,13 @@ fn damages(rt: &impl Print) -> io::Result<()> {
 fn joined(rt: &impl Print, child: u64, at: usize, face: u64) -> io::Result<()>
     requires { at < 16 }
 {
-    let mut m = [0u64; 19];
-    mesh::fresh(&mut m, 1);
-    mesh::refine(&mut m, 0x4000_0000_0000_0000);
-    mesh::refine(&mut m, 0x4200_0000_0000_0000);
-    mesh::refine(&mut m, 0x4400_0000_0000_0000);
-    mesh::refine(&mut m, 0x4600_0000_0000_0000);
-    mesh::refine(&mut m, child);
+    let mut m = [0; 19];
+    let _ = mesh::fresh(&mut m, 1);
+    let _ = mesh::refine(&mut m, 0x4000_0000_0000_0000);
+    let _ = mesh::refine(&mut m, 0x4200_0000_0000_0000);
+    let _ = mesh::refine(&mut m, 0x4400_0000_0000_0000);
+    let _ = mesh::refine(&mut m, 0x4600_0000_0000_0000);
+    let _ = mesh::refine(&mut m, child);
     sound(rt, &m)?;
     slots::join(&mut m, at, 19, face);
     sound(rt, &m)
@@ -353,13 +344,10 @@ fn shifted(rt: &impl Print) -> io::Result<()> {
 
 // Refines a leaf, and tells the one to refine next: the leaf in the way, or else the first leaf.
 fn onward(slots: &mut [u64], leaf: u64) -> u64 {
-    if let Change::Blocked(larger) = mesh::refine(slots, leaf) {
-        return larger;
+    match mesh::refine(slots, leaf) {
+        Err(Refusal::Blocked(larger)) => larger,
+        _ => slots.first().copied().unwrap_or(0),
     }
-    if slots.len() == 0 {
-        return 0;
-    }
-    slots[0]
 }
 
 fn descend(slots: &mut [u64], turns: usize) {
@@ -371,8 +359,8 @@ fn descend(slots: &mut [u64], turns: usize) {
 
 // Down to depth 26 at a corner of the solid, and one turn more, which is refused.
 fn deep(rt: &impl Print) -> io::Result<()> {
-    let mut m = [0u64; 240];
-    mesh::fresh(&mut m, 1);
+    let mut m = [0; 240];
+    let _ = mesh::fresh(&mut m, 1);
     descend(&mut m, 127);
     run(rt, &m, 0x4000_0000_0000_001a)?;
     sides(rt, &m, 0x4000_0000_0000_001a)?;
@@ -384,44 +372,44 @@ fn deep(rt: &impl Print) -> io::Result<()> {
 
 // Inner functions on some faces of a solid alone: every call on a mesh takes all of them.
 fn some_faces(rt: &impl Print) -> io::Result<()> {
-    text(rt, b"tiles 3 20000 : e200000000000000 ->")?;
-    shown(
-        rt,
-        tiling::tile_count(&[0xe200_0000_0000_0000], 0x2_0000, 3) as u64,
-    )?;
-    text(rt, b"\nfaces 1 5")?;
-    let mut m = [7u64; 6];
-    leaves::fresh_into(&mut m, 1, 5);
-    left_shown(rt, &m)
+    let slots = [0xe200_0000_0000_0000];
+    let tiles = Tiles::of(&slots, Faces::new(0x2_0000), Solid::Icosahedron);
+    let count = tiles.map_or(0, |tiles| tiles.len());
+    println!(rt; "tiles 3 20000 : e200000000000000 -> {count:x}")?;
+    let mut m = [7; 6];
+    leaves::fresh_into(&mut m, Solid::Tetrahedron, Faces::new(5));
+    println!(rt; "faces 1 5 :{}", Slots(&m))
 }
 
-fn answer_shown(rt: &impl Print, call: &[u8], change: Change, first: u64) -> io::Result<()> {
-    text(rt, call)?;
-    change_shown(rt, change)?;
-    text(rt, b" :")?;
-    shown(rt, first)?;
-    text(rt, b"\n")
+// What a call on many slots answers, of which only the first is shown.
+fn answer_shown(
+    rt: &impl Print,
+    call: &str,
+    change: Result<(), Refusal>,
+    first: u64,
+) -> io::Result<()> {
+    println!(rt; "{call} -> {} : {first:x}", Answer(change))
 }
 
-// One slot too many, of which only the first is shown.
+// One slot too many.
 fn long(rt: &impl Print) -> io::Result<()> {
-    let mut m = [0u64; 8193];
+    let mut m = [0; 8193];
     m[0] = 7;
-    answer_shown(rt, b"fresh 0", mesh::fresh(&mut m, 0), m[0])?;
-    answer_shown(rt, b"fresh 1", mesh::fresh(&mut m, 1), m[0])?;
-    answer_shown(rt, b"refine 0", mesh::refine(&mut m, 0), m[0])?;
-    answer_shown(rt, b"coarsen 0", mesh::coarsen(&mut m, 0), m[0])?;
+    answer_shown(rt, "fresh 0", mesh::fresh(&mut m, 0), m[0])?;
+    answer_shown(rt, "fresh 1", mesh::fresh(&mut m, 1), m[0])?;
+    answer_shown(rt, "refine 0", mesh::refine(&mut m, 0), m[0])?;
+    answer_shown(rt, "coarsen 0", mesh::coarsen(&mut m, 0), m[0])?;
     across(rt, &m, 0, 3)?;
     run(rt, &m, 0)
 }
 
 // As many slots as a mesh may have.
 fn full(rt: &impl Print) -> io::Result<()> {
-    let mut m = [7u64; 8192];
-    answer_shown(rt, b"fresh 1", mesh::fresh(&mut m, 1), m[0])?;
+    let mut m = [7; 8192];
+    answer_shown(rt, "fresh 1", mesh::fresh(&mut m, 1), m[0])?;
     answer_shown(
         rt,
-        b"refine 4000000000000000",
+        "refine 4000000000000000",
         mesh::refine(&mut m, 0x4000_0000_0000_0000),
         m[0],
     )?;

@@ -1,5 +1,4 @@
 -- The way down: the weights in the cell reached, lifted again, are the point's; no lesser path has weights for the point.
--- Assumes nothing.
 use mathlib.Core.Bool.{Bool, true, false, cond}
 use mathlib.Core.List.{List, [], ◌∷◌}
 use mathlib.Core.Logic.{◌⊎◌, inl, inr}

@@ -3,7 +3,6 @@
 --   lift d w      == weights in child d, lifted to the parent: no subtraction, so the way up is plain sums
 --   lift_all ds w == weights in the cell that the path ds leads to, lifted all the way up
 --
--- Assumes nothing.
 use mathlib.Core.List.{List, [], ◌∷◌}
 use mathlib.Core.Path.{◌≡◌, ap, ◌∙◌}
 use Prim.Native.Nat.{ℕ, ◌+◌}

@@ -1,9 +1,6 @@
 -- What locating answers: one reply for any numbers, and the least code of the point's face and depth that holds the point.
--- Assumes nothing.
-use mathlib.Core.Logic.{inl, inr}
 use mathlib.Core.Path.{◌≡◌, ap, ap₂, sym, ◌∙◌, subst}
 use Prim.Native.Nat.{ℕ, ◌+◌, ◌-◌, ◌*◌, ◌%◌, ◌^◌, ◌<◌, ◌≤◌}
-use native.Mathlib.Nat.{zero-mod}
 use native.Mathlib.Omega.{arith}
 use Rattle.solids.specs.Solids.{Known, solid_of, faces}
 use Rattle.solids.proofs.Numbers.{solid_no-solid_of}
@@ -13,7 +10,8 @@ use Rattle.refusals.proofs.Refusals.{need_single, is_single, met}
 use Rattle.refusals.proofs.Answers.{done_differs, done_one}
 use Rattle.geometry.specs.Paths.{number}
 use Rattle.geometry.specs.Cells.{Cell, cell, depth_of}
-use Rattle.codes.specs.Codes.{joined, size, faults, path_bits, cell_of, code_of}
+use Rattle.codes.specs.Codes.{joined, size, faults, path_bits, Formed, IsCode, cell_of, code_of}
+use Rattle.codes.proofs.Faults.{passed}
 use Rattle.codes.proofs.Sizes.{size_two}
 use Rattle.codes.proofs.Codes.{path_fits, cell_back, code_formed, cell_of-code_of, code_of-cell_of, depth_of-cell_of}
 use Rattle.points.specs.Points.{weights, path_to, point_of, Holds}
@@ -21,17 +19,13 @@ use Rattle.points.specs.Located.{found_cell, Located, On, Least}
 use Rattle.points.proofs.Down.{length-path_to}
 use Rattle.points.proofs.Holds.{reached_holds, reached_least}
 
+-- a head that an empty path is checked with is well formed
+pub head : (s f d : ℕ) → faults refused s f 0 d (λ r. r ≡ done 0) (done 0) → Formed s f 0 d
+head s f d h = (passed refused s f 0 d (λ r. r ≡ done 0) (done_differs 0) h).0
+
 module _ (s f t l r d : ℕ) where
   pub located_single : Single (Located s f t l r d)
   located_single = need_single (λ a. need_single (λ b. need_single (λ c. need_single (λ e. is_single))))
-
-  -- a path of 0 is never at fault, so the check of the head gives 1, 2, 3 or 0
-  pub head_refused : {n : ℕ} → faults (λ k. k) s f 0 d (λ n. n ≡ 0) n → (n ≡ 0 → ⊥) → Located s f t l r d (refused n)
-  head_refused (inl x) z = inl (x.0, ap refused x.1)
-  head_refused (inr (a, inl x)) z = inr (a, inl (x.0, ap refused x.1))
-  head_refused (inr (a, inr (b, inl x))) z = inr (a, inr (b, inl (x.0, ap refused x.1)))
-  head_refused (inr (a, inr (b, inr (c, inl x)))) z = absurd (x.0 (omega arith, zero-mod (size d)))
-  head_refused (inr (a, inr (b, inr (c, inr (e, x))))) z = absurd (z x)
 
   -- the path shifted to the top of its field
   pub found_path : (m : ℕ) → m ≡ number (path_to (weights t l r) d) → d ≤ 26 →
@@ -46,6 +40,9 @@ module _ (s f t l r d : ℕ) where
   pub found_code : Known s → (m : ℕ) → m ≡ path_bits (path_to (weights t l r) d) → joined s f m d ≡ code_of (found_cell s f t l r d)
   unfolding code_of
   found_code k m e = rw (solid_no-solid_of s k, e, length-path_to (weights t l r) d)
+
+  pub found_formed : f < faces (solid_of s) → d ≤ 26 → IsCode (code_of (found_cell s f t l r d))
+  found_formed on h = code_formed (found_cell s f t l r d) on (rw (length-path_to (weights t l r) d) h)
 
   -- the reply's code is the least that holds the point
   module _ (k : Known s) (on : f < faces (solid_of s)) (h : d ≤ 26) (e : t + l + r ≡ 2 ^ 26) where
@@ -65,7 +62,7 @@ module _ (s f t l r d : ℕ) where
     found_on =
         let b = cell_back (found_cell s f t l r d) on found_deep in
         record {
-          code = code_formed (found_cell s f t l r d) on found_deep;
+          code = found_formed on h;
           solid_is = b.solid_is ∙ solid_no-solid_of s k;
           face_is = b.face_is;
           depth_is = b.depth_is ∙ length-path_to (weights t l r) d;

@@ -4,13 +4,12 @@
 --   Located s f t l r d a  == a is the reply for locating at depth d the point of solid s, face f, weights t, l, r
 --   Least s f d X x        == x is the least code of that solid, face and depth whose cell holds the point X
 --
--- Assumes nothing.
 use Rattle.std.specs.Prelude.{◌≡◌, ℕ, ◌+◌, ◌^◌, ◌<◌, ◌≤◌}
 use Rattle.solids.specs.Solids.{Known, solid_of, faces}
 use Rattle.refusals.specs.Refusals.{SOLID, FACE, DEPTH, POINT, need}
 use Rattle.refusals.specs.Answers.{Reply, done, refused}
 use Rattle.geometry.specs.Cells.{Cell, cell}
-use Rattle.codes.specs.Codes.{solid, face, depth, Code, cell_of, code_of}
+use Rattle.codes.specs.Codes.{solid, face, depth, IsCode, cell_of, code_of}
 use Rattle.points.specs.Points.{weights, path_to, Holds}
 
 -- "The point's own face is used."
@@ -27,7 +26,7 @@ Located s f t l r d =
     (λ a. a ≡ done (code_of (found_cell s f t l r d))))))
 
 pub record On (s f d x : ℕ) : Type 0 where
-  pub code : Code x
+  pub code : IsCode x
   pub solid_is : solid x ≡ s
   pub face_is : face x ≡ f
   pub depth_is : depth x ≡ d

@@ -9,7 +9,6 @@
 --   point_of so f w v == what the point of face f and weights w weighs at vertex v: the point itself, whichever face names it
 --   Holds c X         == the closed triangle of c holds the point X
 --
--- Assumes nothing.
 use Rattle.std.specs.Prelude.{List, [], ◌∷◌, ◌≡◌, ℕ, zero, suc, ◌+◌, ◌-◌, ◌*◌, ◌/◌, if◌then◌else◌, nat_le, slice_index}
 use Rattle.solids.specs.Triangles.{tip, lft, rgt}
 use Rattle.solids.specs.Solids.{Solid}

@@ -1,12 +1,10 @@
 -- The numbers of the refusals, and what it means that the first cause in a sequence wins.
 --
---   SOLID, .., ROOM   == the numbers of document 01's table
+--   SOLID, .., ROOM   == the numbers of the table of refusals
 --   need P out rest a == P is asked for: where it fails the answer a is `out`, where it holds the rest says what a is
 --   Single Q          == at most one answer meets Q
 --
 -- `A` is the kind of answer: a number, or a record of a number and values.
---
--- Assumes nothing.
 use Rattle.std.specs.Prelude.{◌⊎◌, ◌≡◌, ℕ}
 
 -- solid not 1, 2, 3

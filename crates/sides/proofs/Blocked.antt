@@ -1,29 +1,23 @@
 -- What is in the way of some leaves is in the way of refining, for one leaf, and of coarsening, for the four children of a cell.
--- Assumes nothing.
 use mathlib.Core.Bool.{true, false}
 use mathlib.Core.List.{List, [], ◌∷◌}
 use mathlib.Core.Path.{◌≡◌, sym, subst}
 use Prim.Native.Nat.{ℕ, zero, suc, ◌<◌}
 use native.Mathlib.Omega.{arith}
 use lib.ListN.{length, get_or}
-use Rattle.codes.specs.Codes.{depth}
+use Rattle.std.proofs.Common.{Option}
+use Rattle.codes.specs.Codes.{depth, IsCode}
 use Rattle.codes.specs.Places.{child_code}
 use Rattle.soundness.specs.Leaves.{Leaf}
+use Rattle.soundness.specs.Meshes.{MeshOf}
 use Rattle.soundness.specs.Sides.{BlocksRefine, BlocksCoarsen}
 use Rattle.soundness.proofs.Cells.{depth_child}
-use Rattle.sides.specs.Sides.{InMesh, AllIn, FourIn, Stands, InTheWay, Blocker}
+use Rattle.sides.specs.Sides.{Stands, InTheWay, Blocker}
 use Rattle.sides.proofs.Least.{blocker_same}
 
 -- one leaf
 
-pub refine_in : (L : List ℕ) (Q a : ℕ) → InMesh L Q a → AllIn L Q (a ∷ [])
-refine_in L Q a M = record { solid = M.solid; mesh = M.mesh; leaf = leaf }
-  where
-    leaf : (i : ℕ) → i < 1 → Leaf L (get_or (a ∷ []) i 0)
-    leaf zero h = M.leaf
-    leaf (suc i) h = absurd (omega arith)
-
-pub refine_all : (L : List ℕ) (a r : ℕ) → Blocker (InTheWay L false (a ∷ [])) r → Blocker (BlocksRefine L a) r
+pub refine_all : (L : List ℕ) (a : ℕ) (r : Option ℕ) → Blocker (InTheWay L false (a ∷ [])) r → Blocker (BlocksRefine L a) r
 refine_all L a r =
     blocker_same (InTheWay L false (a ∷ [])) (BlocksRefine L a) r (λ x p. to x p.at p.within p.side p.low p.stands)
     (λ x p. record {
@@ -40,9 +34,9 @@ refine_all L a r =
 
 -- four children
 
-pub four_deep : (L : List ℕ) (Q c : ℕ) → FourIn L Q c → depth c < 26
+pub four_deep : (L : List ℕ) (Q c : ℕ) → MeshOf Q L → IsCode c → ((q : ℕ) → q < 4 → Leaf L (child_code c q)) → depth c < 26
 unfolding child_code
-four_deep L Q c M = omega (arith, M.code.deep, (M.mesh.covers.cells (child_code c 0) (M.four 0 (omega arith))).deep)
+four_deep L Q c M w four = omega (arith, w.deep, (M.mesh.covers.cells (child_code c 0) (four 0 (omega arith))).deep)
 
 pub kids_are : (c x y z w : ℕ) → x ≡ child_code c 0 → y ≡ child_code c 1 → z ≡ child_code c 2 → w ≡ child_code c 3 →
     (q : ℕ) → q < 4 → get_or (x ∷ y ∷ z ∷ w ∷ []) q 0 ≡ child_code c q
@@ -52,11 +46,8 @@ kids_are c x y z w e f g h (suc (suc zero)) l = g
 kids_are c x y z w e f g h (suc (suc (suc zero))) l = h
 kids_are c x y z w e f g h (suc (suc (suc (suc q)))) l = absurd (omega arith)
 
-module _ (L : List ℕ) (Q c : ℕ) (M : FourIn L Q c) (A : List ℕ) (four : length A ≡ 4) (are : (q : ℕ) → q < 4 → get_or A q 0 ≡ child_code c q) where
-  pub coarsen_in : AllIn L Q A
-  coarsen_in = record { solid = M.solid; mesh = M.mesh; leaf = λ i h. subst (Leaf L) (sym (are i (omega arith))) (M.four i (omega arith)) }
-
-  pub coarsen_all : (r : ℕ) → Blocker (InTheWay L true A) r → Blocker (BlocksCoarsen L c) r
+module _ (L : List ℕ) (c : ℕ) (d : depth c < 26) (A : List ℕ) (four : length A ≡ 4) (are : (q : ℕ) → q < 4 → get_or A q 0 ≡ child_code c q) where
+  pub coarsen_all : (r : Option ℕ) → Blocker (InTheWay L true A) r → Blocker (BlocksCoarsen L c) r
   coarsen_all r =
       blocker_same (InTheWay L true A) (BlocksCoarsen L c) r
       (λ x p.
@@ -69,10 +60,10 @@ module _ (L : List ℕ) (Q c : ℕ) (M : FourIn L Q c) (A : List ℕ) (four : le
         side = p.side;
         low = p.low;
         meets = t.meets;
-        smaller = omega (arith, t.level, depth_child c p.at (four_deep L Q c M));
+        smaller = omega (arith, t.level, depth_child c p.at d);
       })
       (λ x p.
-      let v : depth (child_code c p.digit) < depth x = omega (arith, p.smaller, depth_child c p.digit (four_deep L Q c M)) in
+      let v : depth (child_code c p.digit) < depth x = omega (arith, p.smaller, depth_child c p.digit d) in
       record {
         at = p.digit;
         within = omega (arith, p.four);

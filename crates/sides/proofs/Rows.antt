@@ -1,25 +1,29 @@
 -- The search over leaves and their sides, one side more and one leaf more; a leaf that is the first of the mesh ends it.
 --
 --   Seen L small A i s b == b is in the way by a side before side s of the leaf i of A
---   seen_none, seen_more == before the first side; one side more
+--   seen_pass, seen_more == one side more, with nothing in the way, and with a leaf in the way
 --   seen_row, seen_all   == a leaf done, all leaves done
 --   first_least          == no leaf is less than the first
 --
--- Assumes nothing.
 use mathlib.Core.Bool.{Bool}
-use mathlib.Core.List.{List}
+use mathlib.Core.List.{List, [], ◌∷◌}
 use mathlib.Core.Logic.{◌⊎◌, inl, inr, ⊎_elim}
-use mathlib.Core.Path.{◌≡◌, refl, subst}
-use Prim.Native.Nat.{ℕ, ◌+◌, ◌<◌, ◌≤◌}
+use mathlib.Core.Path.{◌≡◌, refl, sym, ◌∙◌, subst}
+use Prim.Native.Nat.{ℕ, zero, suc, ◌+◌, ◌<◌, ◌≤◌}
 use native.Mathlib.Omega.{arith}
-use lib.ListN.{length, get_or, take}
-use lib.Seq.{get_or-take, length-take-le}
-use Rattle.soundness.specs.Leaves.{Leaf}
+use lib.ListN.{length, get_or}
+use Rattle.std.proofs.Common.{min, Option, None, MatchOption}
+use Rattle.std.proofs.Common as std
+use Rattle.std.proofs.lemmas.List.{get_or_default}
+use Rattle.solids.specs.Triangles.{left, right, vertical, side_no}
+use Rattle.soundness.specs.Leaves.{Ascends}
+use Rattle.soundness.specs.Sides.{MetIs}
+use Rattle.soundness.specs.declared.Met.{Met}
 use Rattle.soundness.proofs.Cells.{le_or_lt}
-use Rattle.soundness.proofs.Leaves.{leaf_at, at_leaf, asc_le}
-use Rattle.sides.specs.Sides.{InMesh, AllIn, Stands, InTheWay, Lower, Blocker}
-use Rattle.sides.proofs.Least.{blocker_none, blocker_is, blocker_same, blocker_either}
-use Rattle.sides.proofs.Candidates.{code_pos}
+use Rattle.soundness.proofs.Leaves.{at_leaf, asc_le}
+use Rattle.sides.specs.Sides.{Stands, InTheWay, candidate_of, Blocker}
+use Rattle.sides.proofs.Candidates.{least_met}
+use Rattle.sides.proofs.Least.{blocker_same, blocker_left, blocker_either}
 
 pub record Seen (L : List ℕ) (small : Bool) (A : List ℕ) (i s b : ℕ) : Type 0 where
   pub at : ℕ
@@ -28,13 +32,7 @@ pub record Seen (L : List ℕ) (small : Bool) (A : List ℕ) (i s b : ℕ) : Typ
   pub before : (at < i) ⊎ ((at ≡ i) × (side < s))
   pub stands : Stands L small (get_or A at 0) side b
 
-pub all_in : (L : List ℕ) (Q : ℕ) (A : List ℕ) (i : ℕ) → AllIn L Q A → i < length A → InMesh L Q (get_or A i 0)
-all_in L Q A i M h = record { solid = M.solid; mesh = M.mesh; leaf = M.leaf i h }
-
 module _ (L : List ℕ) (small : Bool) (A : List ℕ) where
-  pub seen_none : Blocker (Seen L small A 0 0) 0
-  seen_none = blocker_none _ (λ x p. ⊎_elim (λ h. omega arith) (λ h. omega (arith, h.1)) p.before)
-
   one_more : (i s x : ℕ) → Seen L small A i (s + 1) x → Seen L small A i s x ⊎ Stands L small (get_or A i 0) s x
   one_more i s x p =
       ⊎_elim
@@ -47,21 +45,27 @@ module _ (L : List ℕ) (small : Bool) (A : List ℕ) where
       (le_or_lt s p.side))
       p.before
 
-  pub seen_more : (i s a b r : ℕ) → s < 3 → Blocker (Seen L small A i s) a → Blocker (Stands L small (get_or A i 0) s) b → Lower a b r →
-      Blocker (Seen L small A i (s + 1)) r
-  seen_more i s a b r l =
-      blocker_either (Seen L small A i s) (Stands L small (get_or A i 0) s) (Seen L small A i (s + 1)) a b r
-      (λ x p. record {
-        at = p.at;
-        side = p.side;
-        low = p.low;
-        before = ⊎_elim (λ h. inl h) (λ h. inr (h.0, omega (arith, h.1))) p.before;
-        stands = p.stands;
-      })
-      (λ x q. record { at = i; side = s; low = l; before = inr (refl, omega arith); stands = q })
-      (one_more i s)
+  module _ (i s : ℕ) (l : s < 3) where
+    seen : (x : ℕ) → Seen L small A i s x → Seen L small A i (s + 1) x
+    seen x p = record {
+      at = p.at;
+      side = p.side;
+      low = p.low;
+      before = ⊎_elim (λ h. inl h) (λ h. inr (h.0, omega (arith, h.1))) p.before;
+      stands = p.stands;
+    }
 
-  pub seen_row : (i s r : ℕ) → 3 ≤ s → Blocker (Seen L small A i s) r → Blocker (Seen L small A (i + 1) 0) r
+    now : (x : ℕ) → Stands L small (get_or A i 0) s x → Seen L small A i (s + 1) x
+    now x q = record { at = i; side = s; low = l; before = inr (refl, omega arith); stands = q }
+
+    pub seen_pass : (a : Option ℕ) → Blocker (Seen L small A i s) a → Blocker (Stands L small (get_or A i 0) s) None → Blocker (Seen L small A i (s + 1)) a
+    seen_pass a B n = blocker_left (Seen L small A i s) (Stands L small (get_or A i 0) s) (Seen L small A i (s + 1)) seen now (one_more i s) a n B
+
+    pub seen_more : (a : Option ℕ) (b r : ℕ) → Blocker (Seen L small A i s) a → Blocker (Stands L small (get_or A i 0) s) (std.Some b) →
+        MatchOption a (r ≡ b) (λ v. r ≡ min v b) → Blocker (Seen L small A i (s + 1)) (std.Some r)
+    seen_more = blocker_either (Seen L small A i s) (Stands L small (get_or A i 0) s) (Seen L small A i (s + 1)) seen now (one_more i s)
+
+  pub seen_row : (i s : ℕ) (r : Option ℕ) → 3 ≤ s → Blocker (Seen L small A i s) r → Blocker (Seen L small A (i + 1) 0) r
   seen_row i s r h =
       blocker_same (Seen L small A i s) (Seen L small A (i + 1) 0) r
       (λ x p. record {
@@ -77,7 +81,7 @@ module _ (L : List ℕ) (small : Bool) (A : List ℕ) where
       earlier at side l (inl k) = ⊎_elim (λ (m : i ≤ at). inr (omega arith, omega arith)) (λ (m : at < i). inl m) (le_or_lt i at)
       earlier at side l (inr k) = absurd (omega (arith, k.1))
 
-  pub seen_all : (i r : ℕ) → i ≤ length A → length A ≤ i → Blocker (Seen L small A i 0) r → Blocker (InTheWay L small A) r
+  pub seen_all : (i : ℕ) (r : Option ℕ) → i ≤ length A → length A ≤ i → Blocker (Seen L small A i 0) r → Blocker (InTheWay L small A) r
   seen_all i r l h =
       blocker_same (Seen L small A i 0) (InTheWay L small A) r
       (λ x p. record {
@@ -89,26 +93,24 @@ module _ (L : List ℕ) (small : Bool) (A : List ℕ) where
       })
       (λ x p. record { at = p.at; side = p.side; low = p.low; before = inl (omega (arith, p.within)); stands = p.stands })
 
-module _ (xs : List ℕ) (n Q : ℕ) (small : Bool) (A : List ℕ) (h : n ≤ length xs) (M : AllIn (take n xs) Q A) where
-  all : length (take n xs) ≡ n
-  all = length-take-le n xs h
+pub same_side : (s : ℕ) → s < 3 → side_no (get_or (left ∷ right ∷ vertical ∷ []) s left) ≡ s
+same_side zero l = refl
+same_side (suc zero) l = refl
+same_side (suc (suc zero)) l = refl
+same_side (suc (suc (suc n))) l = absurd (omega arith)
 
-  pub some_leaf : 0 < n
-  some_leaf = omega (arith, M.mesh.some, all)
+-- of what one side of one of the leaves meets
+pub one_side : (L : List ℕ) (small : Bool) (A : List ℕ) (i s x : ℕ) (m : Met) (r : Option ℕ) → i < length A → s < 3 → x ≡ get_or A i x →
+    MetIs L x (side_no (get_or (left ∷ right ∷ vertical ∷ []) s left)) m → r ≡ candidate_of small m → Blocker (Stands L small (get_or A i 0) s) r
+one_side L small A i s x m r l k e h f =
+    let y : x ≡ get_or A i 0 = e ∙ get_or_default A i x 0 l in
+    let n = subst (λ (a : ℕ). MetIs L a s m) y (subst (λ (t : ℕ). MetIs L x t m) (same_side s k) h) in
+    subst (Blocker (Stands L small (get_or A i 0) s)) (sym f) (least_met L (get_or A i 0) s small m n)
 
-  front : get_or (take n xs) 0 0 ≡ get_or xs 0 0
-  front = get_or-take n xs 0 0 some_leaf
-
-  front_least : (x : ℕ) → Leaf (take n xs) x → get_or xs 0 0 ≤ x
-  front_least x m =
-      let r = at_leaf (take n xs) x m in
-      omega (arith, front, r.is, asc_le (take n xs) M.mesh.covers.ascend 0 r.at (omega arith) r.low)
-
-  pub first_least : (i s b : ℕ) → i < length A → s < 3 → b ≡ get_or xs 0 0 → Blocker (Stands (take n xs) small (get_or A i 0) s) b →
-      Blocker (InTheWay (take n xs) small A) b
-  first_least i s b l k e B =
-      let m = leaf_at (take n xs) 0 (omega (arith, M.mesh.some)) in
-      let p : 0 < b = omega (arith, front, code_pos M.solid _ (M.mesh.covers.cells _ m)) in
-      blocker_is _ b p
-      (record { at = i; within = l; side = s; low = k; stands = (B.least (λ z. omega arith)).is })
-      (λ x q. omega (arith, front_least x q.stands.leaf))
+-- no leaf is less than the first
+pub first_least : (L : List ℕ) (small : Bool) (A : List ℕ) (i s b : ℕ) → Ascends L → i < length A → s < 3 → b ≡ get_or L 0 0 →
+    Blocker (Stands L small (get_or A i 0) s) (std.Some b) → Blocker (InTheWay L small A) (std.Some b)
+first_least L small A i s b a l k e B = record {
+  is = record { at = i; within = l; side = s; low = k; stands = B.is };
+  least = λ x q. let r = at_leaf L x q.stands.leaf in omega (arith, r.is, asc_le L a 0 r.at (omega arith) r.low);
+}

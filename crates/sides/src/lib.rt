@@ -1,115 +1,113 @@
-// What a side of a leaf meets, and the least leaf in the way of a change. The mesh is sound: its leaves stand in the first `n`
-// slots and cover the faces `faces`.
+//! What a side of a leaf of a mesh meets, and the least leaf in the way of a change.
 
 #![tactic(auto)]
 
-ghost use Rattle.std.specs.Prelude.{◌≡◌, ◌<◌, ◌≤◌, length, take};
-ghost use Rattle.codes.specs.Codes.{depth, Code};
+ghost use Rattle.std.specs.Prelude.{Bool, ◌≡◌, ℕ, ◌<◌, min, Option, MatchOption};
+ghost use Rattle.solids.specs.Triangles.{side_no};
+ghost use Rattle.codes.specs.Codes.{IsCode, depth};
+ghost use Rattle.codes.specs.Places.{child_code};
+ghost use Rattle.soundness.specs.Leaves.{Leaf};
 ghost use Rattle.soundness.specs.Sides.{MetIs, BlocksRefine, BlocksCoarsen};
-ghost use Rattle.sides.specs.Sides.{InMesh, smaller_of, AllIn, FourIn, candidate_of, Lower, InTheWay, Blocker};
+ghost use Rattle.soundness.specs.declared.Met.{Met as Sides·Met};
+ghost use Rattle.sides.specs.Sides.{AllIn, smaller_of, InTheWay, candidate_of, Blocker};
 
+use codes::Code;
+use geometry::Digit;
+use solids::Side;
 use soundness::Met;
+use soundness::meshes::Mesh;
 
 // The two smaller leaves across a side: the children, on the side back, of the cell across.
-fn smaller(across: u64, side: u64) -> Met
-    requires { Code across × (depth across < 26) × (side < 3) }
-    ensures { result ≡ smaller_of across side }
+fn smaller(across: Code, side: Side) -> Met
+    requires code { IsCode across }
+    requires depth { depth across < 26 }
+    ensures { result ≡ smaller_of across (side_no side) }
 {
-    match side {
-        0 => Met::Smaller(codes::child_of(across, 0), codes::child_of(across, 3)),
-        1 => Met::Smaller(codes::child_of(across, 0), codes::child_of(across, 1)),
-        _ => Met::Smaller(codes::child_of(across, 1), codes::child_of(across, 3)),
-    }
+    let (first, second) = match side {
+        Side::Left => (Digit::Tip, Digit::Right),
+        Side::Right => (Digit::Tip, Digit::Left),
+        Side::Vertical => (Digit::Left, Digit::Right),
+    };
+    Met::Smaller(across.child(first).bits(), across.child(second).bits())
 }
 
-// What a side of a leaf meets.
-pub fn side_of(slots: &[u64], n: usize, faces: u64, leaf: u64, side: u64) -> Met
-    requires { (n ≤ length slots.now) × InMesh (take n slots.now) faces leaf × (side < 3) }
-    ensures { MetIs (take n slots.now) leaf side result }
+/// What a side of a leaf meets.
+pub fn side_of(mesh: &Mesh<'_>, leaf: Code, side: Side) -> Met
+    requires { Leaf mesh.now.leaves leaf }
+    ensures { MetIs mesh.now.leaves leaf (side_no side) result }
 {
     let across = steps::step_of(leaf, side);
-    if !soundness::in_faces(faces, across >> 5) {
+    if !mesh.faces().has_place(across.place()) {
         return Met::Open;
     }
-    let i = slots::below(slots, n, across);
-    if i < n {
-        let next = slots[i];
+    let codes = mesh.codes();
+    if let Some(&next) = codes.get(slots::below(codes, across.bits())) {
+        let next = Code::new(next);
         if next == across {
-            return Met::Equal(across);
+            return Met::Equal(across.bits());
         }
-        if next >> 5 == across >> 5 {
+        if next.place() == across.place() {
             return smaller(across, side);
         }
     }
-    Met::Larger(codes::parent_of(across))
+    Met::Larger(across.parent().bits())
 }
 
-// The least leaf of those a side meets that is in the way: a larger one in the way of a refine, a smaller one in the way of a
-// coarsen; 0 if none is.
-fn candidate(met: Met, smaller: bool) -> u64
-    ensures { result ≡ candidate_of smaller met }
+// The lesser of a leaf and the least before it, if there is one.
+fn lower(least: Option<u64>, leaf: u64) -> u64
+    ensures { MatchOption least (result ≡ leaf) (λ before. result ≡ min before leaf) }
 {
-    match met {
-        Met::Larger(b) => if smaller { 0 } else { b },
-        Met::Smaller(b, _) => if smaller { b } else { 0 },
-        Met::Equal(_) => 0,
-        Met::Open => 0,
-    }
+    least.map_or(leaf, |before| before.min(leaf))
 }
 
-// The lesser of two leaves; 0 stands for none.
-fn lower(a: u64, b: u64) -> u64
-    ensures { Lower a b result }
+// The least leaf in the way of a change of some leaves, by all their sides; a rule says which leaf of what a side meets is. No
+// leaf is less than the first.
+fn least_blocker<F: Fn(Met) -> Option<u64>>(
+    mesh: &Mesh<'_>,
+    leaves: &[Code],
+    blocks: F,
+) -> Option<u64>
+    requires callable { F.IsAlwaysCallable blocks }
+    requires leaves { AllIn mesh.now.leaves leaves.now }
+    ensures { (small : Bool) → ((m : Sides·Met) (r : Option ℕ) → F.post blocks m r → r ≡ candidate_of small m) → Blocker (InTheWay mesh.now.leaves small leaves.now) result }
 {
-    if a == 0 {
-        return b;
-    }
-    if b == 0 {
-        return a;
-    }
-    if b < a { b } else { a }
-}
-
-// The least leaf in the way of a change of some leaves, by all their sides; 0 if none is. No leaf is less than the first.
-fn least_blocker(slots: &[u64], n: usize, faces: u64, leaves: &[u64], smaller: bool) -> u64
-    requires { (n ≤ length slots.now) × AllIn (take n slots.now) faces leaves.now }
-    ensures { Blocker (InTheWay (take n slots.now) smaller leaves.now) result }
-{
-    let mut least = 0;
-    let mut i = 0;
-    'search: loop {
-        if leaves.len() <= i {
-            break 'search least;
-        }
-        let mut side = 0;
-        while side < 3 {
-            let blocker = candidate(side_of(slots, n, faces, leaves[i], side), smaller);
-            if blocker == slots[0] {
-                break 'search blocker;
+    let first = mesh.codes()[0];
+    'search: {
+        let mut least = None;
+        for &leaf in leaves {
+            for side in Side::ALL {
+                if let Some(blocker) = blocks(side_of(mesh, leaf, side)) {
+                    if blocker == first {
+                        break 'search Some(blocker);
+                    }
+                    least = Some(lower(least, blocker));
+                }
             }
-            least = lower(least, blocker);
-            side += 1;
         }
-        i += 1;
+        least
     }
 }
 
-// The least leaf in the way of refining a leaf; 0 if none is.
-pub fn refine_blocker(slots: &[u64], n: usize, faces: u64, leaf: u64) -> u64
-    requires { (n ≤ length slots.now) × InMesh (take n slots.now) faces leaf }
-    ensures { Blocker (BlocksRefine (take n slots.now) leaf) result }
+/// The least leaf in the way of refining a leaf.
+pub fn refine_blocker(mesh: &Mesh<'_>, leaf: Code) -> Option<u64>
+    requires { Leaf mesh.now.leaves leaf }
+    ensures { Blocker (BlocksRefine mesh.now.leaves leaf) result }
 {
-    least_blocker(slots, n, faces, &[leaf], false)
+    least_blocker(mesh, &[leaf], |met| met.larger())
 }
 
-// The least leaf in the way of coarsening to a cell whose four children are leaves; 0 if none is.
-pub fn coarsen_blocker(slots: &[u64], n: usize, faces: u64, cell: u64) -> u64
-    requires { (n ≤ length slots.now) × FourIn (take n slots.now) faces cell }
-    ensures { Blocker (BlocksCoarsen (take n slots.now) cell) result }
+/// The least leaf in the way of coarsening to a cell whose four children are leaves.
+pub fn coarsen_blocker(mesh: &Mesh<'_>, cell: Code) -> Option<u64>
+    requires { (q : ℕ) → q < 4 → Leaf mesh.now.leaves (child_code cell q) }
+    ensures { Blocker (BlocksCoarsen mesh.now.leaves cell) result }
 {
-    let a = codes::child_of(cell, 0);
-    let b = codes::child_of(cell, 1);
-    let c = codes::child_of(cell, 2);
-    let d = codes::child_of(cell, 3);
-    least_blocker(slots, n, faces, &[a, b, c, d], true)
+    // How deep the cell is follows from what is told with these.
+    let (_codes, _number) = (mesh.codes(), cell.bits());
+    let children = [
+        cell.child(Digit::Tip),
+        cell.child(Digit::Left),
+        cell.child(Digit::Centre),
+        cell.child(Digit::Right),
+    ];
+    least_blocker(mesh, &children, |met| met.smaller())
 }

@@ -1,5 +1,3 @@
-pub mod Moves
 pub mod Search
-pub mod Signs
 pub mod Slots
 pub mod Zeros

@@ -3,8 +3,6 @@
 --   HasVertex so g v == the vertex v stands at a corner of face g
 --   Seam so s f      == the next face over side s of face f is another face, it has both end vertices of that side, and
 --                       the way back leads to f
---
--- Assumes nothing.
 use Rattle.std.specs.Prelude.{◌≢◌, ◌≡◌, ℕ, ◌<◌}
 use Rattle.solids.specs.Triangles.{Corner, Side, end₀, end₁, back}
 use Rattle.solids.specs.Solids.{Solid, faces, vertex, next_face}

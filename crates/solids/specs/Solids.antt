@@ -8,16 +8,29 @@
 --   vertices so      == how many vertices it has, counted from 0
 --   Face, face_list  == tip, left and right vertex of a face; the faces of a solid
 --   vertex so f p    == the vertex at corner p of face f
+--   corner_row so p  == the vertices at corner p, for each face
 --   next_row so s    == the next faces over side s, for each face
 --   next_face so s f == the face across side s of face f
 --   mirrored so s f  == the seam across side s of face f is mirrored
---
--- Assumes nothing.
-use Rattle.std.specs.Prelude.{Bool, true, false, ◌||◌, List, [], ◌∷◌, ◌++◌, ℕ, zero, suc, ◌+◌, ◌≤◌, nat_le, slice_index, slice_index_or}
+--   SolidTried n r   == r is the solid of number n, or refuses where no solid has it
+use Rattle.std.specs.Prelude.{Bool, true, false, ◌||◌, ◌≡◌, Result, MatchResult, List, [], ◌∷◌, ◌++◌, map, ℕ, zero, suc, ◌+◌, ◌≤◌, nat_le, slice_index, slice_index_or}
+use Rattle.refusals.specs.declared.Refusal.{Refusal}
+use Rattle.refusals.specs.declared.Refusal.TheVariants.{Solid as NoSolid}
+use Rattle.solids.specs.declared.Solid.{Solid as SolidType}
+use Rattle.solids.specs.declared.Solid.TheVariants.{Tetrahedron, Octahedron, Icosahedron}
 use Rattle.solids.specs.Triangles.{Corner, tip, lft, rgt, Side, left, right, vertical}
 
-pub data Solid : Type 0 where
-  tetrahedron octahedron icosahedron : Solid
+abbrev pub Solid : Type 0
+Solid = SolidType
+
+pattern abbrev pub tetrahedron : Solid
+tetrahedron = Tetrahedron
+
+pattern abbrev pub octahedron : Solid
+octahedron = Octahedron
+
+pattern abbrev pub icosahedron : Solid
+icosahedron = Icosahedron
 
 -- "2 bits solid (1 tetrahedron, 2 octahedron, 3 icosahedron)"
 abbrev pub Known : ℕ → Type 0
@@ -79,6 +92,10 @@ at f rgt = f.right
 abbrev pub vertex : Solid → ℕ → Corner → ℕ
 vertex so f p = at (slice_index_or (face_list so) f (face 0 0 0)) p
 
+-- the vertices that stand at one corner of the faces
+abbrev pub corner_row : Solid → Corner → List ℕ
+corner_row so p = map (λ f. at f p) (face_list so)
+
 -- "takes the neighbouring face from a table per solid, a row for each direction"
 --
 -- tetrahedron: right goes 0, 1, 2, 3, 0; vertical pairs 0 with 2 and 1 with 3
@@ -114,3 +131,6 @@ mirrored octahedron vertical f = false
 mirrored icosahedron left f = nat_le f 4 || nat_le 15 f
 mirrored icosahedron right f = nat_le f 4 || nat_le 15 f
 mirrored icosahedron vertical f = false
+
+abbrev pub SolidTried : ℕ → Result Solid Refusal → Type 0
+SolidTried n r = MatchResult r (λ so. solid_no so ≡ n) (λ e. (e ≡ NoSolid) × (Known n → ⊥))

@@ -23,7 +23,7 @@ use Rattle.solids.proofs.Numbers.{faces_few}
 use Rattle.geometry.specs.Paths.{digit_no, digit_of}
 use Rattle.geometry.specs.Cells.{Cell, depth_of, parent, child}
 use Rattle.geometry.proofs.Paths.{digit<4, digit_no-digit_of}
-use Rattle.codes.specs.Codes.{solid, depth, size, Code, cell_of, code_of}
+use Rattle.codes.specs.Codes.{solid, depth, size, IsCode, cell_of, code_of}
 use Rattle.codes.specs.Places.{place, past, end, CodeOn, child_code, parent_code, last_digit}
 use Rattle.codes.proofs.Sizes.{size_pos, size_full, size_suc}
 use Rattle.codes.proofs.Codes.{cell_of-code_of, code_of-cell_of, cell_formed, code_formed, depth_of-cell_of}
@@ -266,7 +266,7 @@ as_kid {S} x w h =
     let n : depth_of (cell_of x) ≡ suc (depth_of (parent (cell_of x))) = ap depth_of b.is in
     let d : depth_of (parent (cell_of x)) < 26 = omega (arith, depth_of-cell_of x, w.deep) in
     let e : code_of (parent (cell_of x)) ≡ p = parent_place x k h in
-    let f : Code p = subst Code e (code_formed (parent (cell_of x)) (cell_formed x k) (omega arith)) in
+    let f : IsCode p = subst IsCode e (code_formed (parent (cell_of x)) (cell_formed x k) (omega arith)) in
     let c : cell_of p ≡ parent (cell_of x) = ap cell_of (sym e) ∙ cell_of-code_of (parent (cell_of x)) (cell_formed x k) (omega arith) in
     let u : depth p ≡ depth_of (parent (cell_of x)) = sym (depth_of-cell_of p) ∙ ap depth_of c in
     let deep : depth p < 26 = omega arith in

@@ -2,6 +2,7 @@
 -- slots have one solid and one set of faces.
 --
 --   fresh_tiling, fresh_mesh    == the fresh leaves are a tiling, and those of a mesh
+--   all_of                      == the set of all faces of a solid, by its number
 --   all_faces_in, all_faces_set == the set of all faces has every place of the solid, and is a set of faces
 --   leaves_pad, length-pad      == the leaves of padded slots, and their length
 --   leaves_le, head_leaf        == leaves stand in slots, the first one in the first
@@ -20,8 +21,8 @@ use native.Mathlib.Omega.{arith}
 use lib.Dec.{eqb, eqb→eq}
 use lib.ListN.{length, get_or, replicate, length-append, length-replicate}
 use borrow.Author.Tests.{eqb-true, eqb-false, ne_eqb}
-use Rattle.solids.specs.Solids.{Solid, tetrahedron, octahedron, icosahedron, Known, solid_of, faces}
-use Rattle.solids.proofs.Numbers.{faces_few}
+use Rattle.solids.specs.Solids.{Solid, tetrahedron, octahedron, icosahedron, Known, solid_no, solid_of, faces}
+use Rattle.solids.proofs.Numbers.{faces_few, solid_of-solid_no}
 use Rattle.solids.proofs.Tests.{below_at}
 use Rattle.codes.specs.Codes.{solid, depth, size}
 use Rattle.codes.specs.Places.{place, past, code_at, base, end, CodeOn}
@@ -48,6 +49,11 @@ all_faces_bit : (so : Solid) (f : ℕ) → f < faces so → (2 ^ faces so - 1) /
 all_faces_bit tetrahedron f h = eqb→eq _ 1 (below_at (λ k. eqb (15 / 2 ^ k % 2) 1) 4 tt f h)
 all_faces_bit octahedron f h = eqb→eq _ 1 (below_at (λ k. eqb (255 / 2 ^ k % 2) 1) 8 tt f h)
 all_faces_bit icosahedron f h = eqb→eq _ 1 (below_at (λ k. eqb (1048575 / 2 ^ k % 2) 1) 20 tt f h)
+
+-- the set of all faces, by the solid itself
+pub all_of : (so : Solid) → 2 ^ faces so - 1 ≡ all_faces (solid_no so)
+unfolding all_faces
+all_of so = ap (λ (t : Solid). 2 ^ faces t - 1) (sym (solid_of-solid_no so))
 
 pub all_faces_in : (S g : ℕ) → base S ≤ g → g < end S → InFaces (all_faces S) g
 unfolding all_faces

@@ -19,7 +19,7 @@ use Rattle.solids.specs.Triangles.{Side, side_of}
 use Rattle.solids.specs.Solids.{solid_no}
 use Rattle.solids.proofs.Numbers.{solid_no-solid_of}
 use Rattle.geometry.specs.Neighbours.{Neighbour}
-use Rattle.codes.specs.Codes.{solid, depth, size, Code, cell_of}
+use Rattle.codes.specs.Codes.{solid, depth, size, IsCode, cell_of}
 use Rattle.codes.specs.Places.{place, code_at, CodeOn, child_code}
 use Rattle.codes.proofs.Places.{code_on_solid, solid_is, on_solid_code}
 use Rattle.steps.specs.Edges.{back_no, first, OnEdge, StepLaws}
@@ -48,7 +48,7 @@ finest_on {S} a g w h =
       tail = ap (λ (n : ℕ). place (code_at g 26) % n) e ∙ omega arith;
     }
 
-neighbour_on : (S : ℕ) (s : Side) (x y : ℕ) → CodeOn S x → Code y → Neighbour s (cell_of x) (cell_of y) → CodeOn S y
+neighbour_on : (S : ℕ) (s : Side) (x y : ℕ) → CodeOn S x → IsCode y → Neighbour s (cell_of x) (cell_of y) → CodeOn S y
 unfolding cell_of
 neighbour_on S s x y w c n =
     let k = (on_solid_code S x w).known in
@@ -94,7 +94,7 @@ module _ (S : ℕ) (step : ℕ → ℕ → ℕ) (N : StepLaws S step) where
         inside = h;
         across = k;
         outside = n;
-        code = subst Code e (on_solid_code S y (N.on s x l wx));
+        code = subst IsCode e (on_solid_code S y (N.on s x l wx));
         corners = subst (λ (z : ℕ). Neighbour (side_of s) (cell_of x) (cell_of z)) e (N.corner s x l wx);
       }
 

@@ -6,8 +6,6 @@
 --   refined a L      == the leaf a replaced by its children
 --   coarsened c L    == the children of c replaced by c
 --   under c L        == those of L that are c or lie inside it, in order
---
--- Assumes nothing.
 use Rattle.std.specs.Prelude.{Bool, ◌&&◌, List, [], ◌∷◌, ◌++◌, ℕ, zero, suc, ◌+◌, ◌*◌, ◌/◌, ◌%◌, ◌^◌, drop, if◌then◌else◌, ◌==◌, nat_eq, nat_le}
 use Rattle.solids.specs.Solids.{solid_of, faces}
 use Rattle.codes.specs.Places.{place, past, code_at, base, child_code}

@@ -14,8 +14,6 @@
 --   Asked s a            == the level test asks for the side s at the leaf a, by its last two digits
 --   Rows Q step L        == what the level test finds of the leaves
 --   Passes step S Q xs n == what the linear pass, the zeros and the level test find of the first n slots
---
--- Assumes nothing.
 use Rattle.std.specs.Prelude.{List, [], ◌∷◌, ◌⊎◌, ◌≡◌, ℕ, ◌-◌, ◌<◌, ◌≤◌, length, take, drop, replicate, slice_index}
 use Rattle.codes.specs.Codes.{depth}
 use Rattle.codes.specs.Places.{place, past, base, end, CodeOn, parent_code, last_digit}

@@ -7,8 +7,6 @@
 --   Holds x g  == the cell of depth 26 at the place g lies in the cell x
 --   In x c     == the cell x is the cell c or lies inside it
 --   Apart x y  == no cell of depth 26 lies in both
---
--- Assumes nothing.
 use Rattle.std.specs.Prelude.{List, [], ◌∷◌, ◌++◌, ◌⊎◌, ◌≡◌, ℕ, ◌-◌, ◌<◌, ◌≤◌, length, replicate, if◌then◌else◌, ◌==◌}
 use Rattle.codes.specs.Places.{place, past}
 

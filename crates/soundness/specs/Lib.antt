@@ -4,3 +4,4 @@ pub mod Soundness
 pub mod Changes
 pub mod Sides
 pub mod Inner
+pub mod Meshes

@@ -4,8 +4,6 @@
 --   InFaces Q g == the face of the place g is in the set Q
 --   all_faces S == all faces of the solid of number S
 --   FaceSet S Q == Q is a set of faces of the solid of number S, and not empty
---
--- Assumes nothing.
 use Rattle.std.specs.Prelude.{◌≡◌, ℕ, ◌-◌, ◌/◌, ◌%◌, ◌^◌, ◌<◌}
 use Rattle.solids.specs.Solids.{solid_of, faces}
 

@@ -1,15 +1,16 @@
 -- What a side of a leaf meets, and what stands in the way of a change.
 --
 --   MetIs L a s m       == side s of the leaf a meets m: one larger or equal leaf, two smaller ones, or nothing
+--   larger_leaf m       == the larger leaf of what is met, if it is one
+--   smaller_leaf m      == the lesser of the two smaller leaves, if it is two
 --   Only, Two           == the one leaf that a side meets; the two smaller ones
 --   OneOrTwo L a s      == it meets one leaf, equal or larger, or exactly two smaller
 --   BlocksRefine L a b  == b is a larger leaf that a side of a meets
 --   BlocksCoarsen L c b == b is a smaller leaf that a side of one of the four children of c meets
 --   Some P              == there is something with P
 --   LeastOf P v         == v is the least number with P
---
--- Assumes nothing.
-use Rattle.std.specs.Prelude.{List, ◌⊎◌, ◌≡◌, ℕ, ◌+◌, ◌<◌, ◌≤◌}
+use Rattle.std.specs.Prelude.{Option, None, List, ◌⊎◌, ◌≡◌, ℕ, ◌+◌, ◌<◌, ◌≤◌}
+use Rattle.std.specs.Prelude as std
 use Rattle.codes.specs.Codes.{depth}
 use Rattle.codes.specs.Places.{child_code}
 use Rattle.soundness.specs.Leaves.{Leaf}
@@ -40,6 +41,18 @@ MetIs L a s (Larger b) = Only L a s b × (depth b + 1 ≡ depth a)
 MetIs L a s (Equal b) = Only L a s b × (depth b ≡ depth a)
 MetIs L a s (Smaller b c) = Two L a s b c
 MetIs L a s Open = (x : ℕ) → Leaf L x → Meets a s x → ⊥
+
+abbrev pub larger_leaf : Met → Option ℕ
+larger_leaf (Larger b) = std.Some b
+larger_leaf (Equal b) = None
+larger_leaf (Smaller b c) = None
+larger_leaf Open = None
+
+abbrev pub smaller_leaf : Met → Option ℕ
+smaller_leaf (Larger b) = None
+smaller_leaf (Equal b) = None
+smaller_leaf (Smaller b c) = std.Some b
+smaller_leaf Open = None
 
 pub data OneOrTwo (L : List ℕ) (a s : ℕ) : Type 0 where
   one_larger : (b : ℕ) → MetIs L a s (Larger b) → OneOrTwo L a s

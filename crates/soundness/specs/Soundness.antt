@@ -8,12 +8,10 @@
 --   Mesh S Q L    == the leaves L are those of a sound mesh
 --   Sound S Q xs  == the slots xs hold such a mesh
 --   SoundIn Q xs  == the same, of the solid of the first slot
---
--- Assumes nothing.
 use Rattle.std.specs.Prelude.{List, ◌≡◌, ℕ, ◌+◌, ◌<◌, ◌≤◌, length, slice_index}
 use Rattle.solids.specs.Triangles.{side_of}
 use Rattle.geometry.specs.Neighbours.{Neighbour}
-use Rattle.codes.specs.Codes.{solid, depth, Code, cell_of}
+use Rattle.codes.specs.Codes.{solid, depth, IsCode, cell_of}
 use Rattle.codes.specs.Places.{place, code_at, base, end, CodeOn}
 use Rattle.soundness.specs.Regions.{InFaces, FaceSet}
 use Rattle.soundness.specs.Leaves.{Leaf, Ascends, leaves, pad, Holds}
@@ -41,7 +39,7 @@ pub record Meets (a s b : ℕ) : Type 0 where
   pub inside : Holds a finest
   pub across : Holds b beyond
   pub outside : Holds a beyond → ⊥
-  pub code : Code (code_at beyond 26)
+  pub code : IsCode (code_at beyond 26)
   pub corners : Neighbour (side_of s) (cell_of (code_at finest 26)) (cell_of (code_at beyond 26))
 
 -- "leaves that share a stretch of a side differ by at most one level"

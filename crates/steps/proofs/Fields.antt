@@ -1,9 +1,7 @@
 -- One of two words chosen by a mask. Another path, or another face and path, put into a code by masks: the fields beside it
 -- stay as they were.
--- Assumes nothing.
-use Rattle.std.proofs.Common.{◌≡◌, ℕ, zero, suc, ◌+◌, ◌-◌, ◌*◌, ◌/◌, ◌%◌, ◌^◌, ◌<◌, Bool, true, false, cond, sym, refl, ap, ◌∙◌, ap₂, mod-lt, pow-suc, zero-add, arith, lit<, pow_pos}
-use mir.Val.{bool_byte}
-use lib.Bits.{bit_and, bit_or, bit_xor, and_block, and_mask, and_zero_r, or_block, or_zero_r, or_shifted, or_shifted_r, xor_block, xor_zero_r, xor_lt}
+use Rattle.std.proofs.Common.{◌≡◌, ℕ, zero, suc, ◌+◌, ◌*◌, ◌/◌, ◌%◌, ◌^◌, ◌<◌, sym, refl, ap, ◌∙◌, ap₂, mod-lt, pow-suc, zero-add, arith, lit<, pow_pos}
+use lib.Bits.{bit_and, bit_or, bit_xor, and_block, and_mask, or_block, or_zero_r, or_shifted, or_shifted_r, xor_block, xor_zero_r, xor_lt}
 use lib.Pow.{split}
 use Rattle.codes.specs.Codes.{solid, face, path, depth, joined}
 
@@ -29,17 +27,6 @@ xor_back (suc n) p q h k =
     ∙ xor_block 1 (p / 2) (bit_xor (p / 2) (q / 2)) (p % 2) (bit_xor (p % 2) (q % 2)) (omega arith) (xor_lt 1 (p % 2) (q % 2) (omega arith) (omega arith))
     ∙ ap₂ (λ (a c : ℕ). a * 2 ^ 1 + c) (xor_back n (p / 2) (q / 2) (omega arith) (omega arith)) (bit_back (p % 2) (q % 2) (omega arith) (omega arith))
     ∙ sym eq
-
--- one of two words, by a mask m of ones or zeros
-
-pub chosen : (t : Bool) (a b m : ℕ) → a < 2 ^ 64 → b < 2 ^ 64 → m < 2 ^ 64 → (m + bool_byte t) % 2 ^ 64 ≡ 0 →
-    bit_or (bit_and a m) (bit_and b ((2 ^ 64 - 1) - m)) ≡ cond t a b
-chosen true a b m ha hb hm e =
-    let o : m ≡ 2 ^ 64 - 1 = omega arith in
-    rw (o, and_zero_r b, or_zero_r, and_mask a 64) (omega arith)
-chosen false a b m ha hb hm e =
-    let o : m ≡ 0 = omega arith in
-    rw (o, and_zero_r a, and_mask b 64) (omega arith)
 
 module _ (x : ℕ) where
   -- another path, by what differs between the two

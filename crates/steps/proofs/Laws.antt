@@ -1,6 +1,5 @@
 -- The step on codes has the laws that a mesh asks of it, on every solid. Each is the cell's law between the code of the cell
 -- and the cell of the code.
--- Assumes nothing.
 use Rattle.std.proofs.Common.{◌≡◌, ℕ, zero, suc, ◌<◌, ◌≤◌, Bool, true, false, sym, refl, ap, ◌∙◌, subst, ap₂, inl, inr, true≢false, arith}
 use Rattle.solids.specs.Triangles.{Side, back, side_of}
 use Rattle.solids.specs.Solids.{solid_no, solid_of}
@@ -16,7 +15,7 @@ use Rattle.geometry.proofs.Undo.{undo}
 use Rattle.geometry.specs.Parts.{Part}
 use Rattle.geometry.proofs.Parents.{parent_across}
 use Rattle.geometry.proofs.Children.{new_digit, stops_back, child_stops, child_climbs}
-use Rattle.codes.specs.Codes.{solid, depth, Code, cell_of, code_of}
+use Rattle.codes.specs.Codes.{solid, depth, IsCode, cell_of, code_of}
 use Rattle.codes.specs.Places.{CodeOn, child_code}
 use Rattle.codes.specs.Calls.{parent_end, ParentOf}
 use Rattle.codes.proofs.Faults.{code_on}
@@ -78,7 +77,7 @@ off_edge_stops s q h l n = go (stops (side_of s) (digit_of q)) refl
 
 -- the laws on codes
 
-module _ (x s : ℕ) (c : Code x) where
+module _ (x s : ℕ) (c : IsCode x) where
   pub step_depth : depth (step_code s x) ≡ depth x
   step_depth = sym (depth_of-cell_of (step_code s x)) ∙ ap depth_of (cell_of-step_code x s c) ∙ (across x s c).depth ∙ depth_of-cell_of x
 
@@ -146,7 +145,7 @@ step_laws S = record {
 -- a step that is done
 
 record Done (x s y : ℕ) : Type 0 where
-  code : Code x
+  code : IsCode x
   side : s < 3
   is : y ≡ step_code s x
 
@@ -164,7 +163,7 @@ undo_stepped x s y h =
     (subst (λ (n : ℕ). Arrives (step_code s x) (back_no s) (done n)) (step_back x s d.code) (arrives (step_code s x) (back_no s) c)))
 
 -- the parent of a cell that has one
-module _ (x : ℕ) (c : Code x) (h : 0 < depth x) where
+module _ (x : ℕ) (c : IsCode x) (h : 0 < depth x) where
   parent_deep : depth_of (parent (cell_of x)) ≤ 26
   parent_deep =
       let b = born (cell_of x) (rw (depth_of-cell_of x) h) in

@@ -4,8 +4,6 @@
 --   first s, second s == the digits of the two children of a cell that have a side on its side s
 --   OnEdge s q        == the child of digit q is one of these
 --   StepLaws S step   == what a mesh asks of the step (direction, code) on the solid of number S
---
--- Assumes nothing.
 use Rattle.std.specs.Prelude.{◌≡◌, ℕ, zero, suc, ◌<◌, ◌≢◌, ◌⊎◌}
 use Rattle.solids.specs.Triangles.{side_of}
 use Rattle.geometry.specs.Neighbours.{Neighbour}

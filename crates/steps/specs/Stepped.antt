@@ -6,19 +6,17 @@
 --   step_code s x == the code that the step of the cell of x leads to
 --
 -- Both methods have the promise Stepped, which says nothing of digits, tables or seams.
---
--- Assumes nothing.
 use Rattle.std.specs.Prelude.{◌≡◌, ℕ, ◌<◌}
 use Rattle.solids.specs.Triangles.{side_of}
 use Rattle.refusals.specs.Refusals.{DIRECTION, need}
 use Rattle.refusals.specs.Answers.{Reply, refused}
 use Rattle.geometry.specs.Neighbours.{Neighbour}
 use Rattle.geometry.specs.Steps.{step}
-use Rattle.codes.specs.Codes.{Code, cell_of, code_of, code_faults}
+use Rattle.codes.specs.Codes.{IsCode, cell_of, code_of, code_faults}
 
 pub record Arrives (x s : ℕ) (r : Reply) : Type 0 where
   pub number : r.number ≡ 0
-  pub code : Code r.value
+  pub code : IsCode r.value
   pub across : Neighbour (side_of s) (cell_of x) (cell_of r.value)
 
 -- "Pure calls: 1, 2, 3, 4, then 5, 6, 7, 8 where they apply."

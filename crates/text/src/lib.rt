@@ -1,82 +1,61 @@
-// Text in ASCII: digits read from a slice of bytes, and text put into one from a place on. Inner functions: callers have
-// seen to it that there is room.
+//! Numbers as text in ASCII: digits that are put into a page, and digits that are read from bytes.
 
 #![tactic(auto)]
 
-ghost use Rattle.std.specs.Prelude.{◌≡◌, ◌+◌, ◌<◌, ◌≤◌, length, take, drop};
-ghost use Rattle.text.specs.Text.{Put, Digit, Reads, glyph, digits};
+ghost use Rattle.std.specs.Prelude.{◌≡◌, ◌+◌, ◌<◌, ◌≤◌, ◌++◌, length};
+ghost use Rattle.arrayvec.specs.ArrayString.{array_string_len};
+ghost use Rattle.text.specs.Text.{Digit, Reads, glyph, digits};
 
-// A number that stands in a text, or another form.
-#[derive(Clone, Copy)]
-pub enum Reading {
-    Number(u64),
-    Other,
-}
+use arrayvec::ArrayString;
 
-// Puts all of a text in, from a place on, and answers where it ends.
-pub fn put(page: &mut [u8], at: usize, text: &[u8]) -> usize
-    requires { at + length text.now ≤ length page.old }
-    ensures { Put page.old page.new at result text.now }
-{
-    let mut i = 0;
-    while i < text.len() {
-        page[at + i] = text[i];
-        i += 1;
-    }
-    at + i
-}
-
-fn glyph(digit: u64) -> u8
+// The character of a digit below 16. It is cast, since `u32::try_from` would have a case that cannot be.
+fn glyph(digit: u64) -> char
     requires { digit < 16 }
-    ensures { result ≡ glyph digit }
+    ensures value { result ≡ glyph digit }
+    ensures ascii { result < 128 }
 {
-    if digit < 10 {
-        48 + digit as u8
-    } else {
-        87 + digit as u8
+    char::from_digit(digit as u32, 16).unwrap()
+}
+
+/// Puts the last digits of a number in, so many of them, in a base up to 16.
+// By recursion, as the digits are defined: a loop from the first digit on would need powers of the base, and a bound on `count`.
+pub fn put_digits<const CAPACITY: usize>(
+    page: &mut ArrayString<CAPACITY>,
+    base: u64,
+    count: usize,
+    number: u64,
+)
+    requires least { 0 < base }
+    requires most { base ≤ 16 }
+    requires room { array_string_len page.old + count ≤ CAPACITY }
+    ensures bytes { page.new.bytes ≡ page.old.bytes ++ digits base count number }
+    ensures len { array_string_len page.new ≡ array_string_len page.old + count }
+{
+    if 0 < count {
+        put_digits(page, base, count - 1, number / base);
+        page.push(glyph(number % base));
     }
 }
 
-// Puts the last digits of a number in, so many of them, in a base up to 16.
-pub fn put_digits(page: &mut [u8], at: usize, base: u64, count: usize, number: u64) -> usize
-    requires { (0 < base) × (base ≤ 16) × (at + count ≤ length page.old) }
-    ensures { Put page.old page.new at result (digits base count number) }
-{
-    let mut rest = number;
-    let mut i = count;
-    while 0 < i {
-        i -= 1;
-        page[at + i] = glyph(rest % base);
-        rest /= base;
-    }
-    at + count
-}
-
-// The digit below 16, in lower case, that a byte shows; 16 if it shows none.
-fn digit(byte: u8) -> u64
+// The digit below 16, in lower case, that a byte shows.
+fn digit(byte: u8) -> Option<u64>
     ensures { Digit byte result }
 {
     match byte {
-        48..=57 => byte as u64 - 48,
-        97..=102 => byte as u64 - 87,
-        _ => 16,
+        b'0'..=b'9' => Some(u64::from(byte - b'0')),
+        b'a'..=b'f' => Some(u64::from(byte - b'a') + 10),
+        _ => None,
     }
 }
 
-// Reads a number of 16 hexadecimal digits, in lower case, from a place on.
-pub fn read_hex(bytes: &[u8], at: usize) -> Reading
-    requires { at + 16 ≤ length bytes.now }
-    ensures { Reads (take 16 (drop at bytes.now)) 16 result }
+/// Reads a number from its hexadecimal digits, in lower case.
+pub fn read_hex(bytes: &[u8]) -> Option<u64>
+    requires { length bytes.now ≤ 16 }
+    ensures { Reads bytes.now (length bytes.now) result }
 {
     let mut number = 0;
-    let mut i = 0;
-    while i < 16 {
-        let next = digit(bytes[at + i]);
-        if 15 < next {
-            return Reading::Other;
-        }
-        number = number * 16 + next;
-        i += 1;
+    for &byte in bytes {
+        number = number * 16 + digit(byte)?;
     }
-    Reading::Number(number)
+    Some(number)
 }

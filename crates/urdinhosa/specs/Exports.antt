@@ -4,22 +4,19 @@
 --   Gives Q n                          == n is that one number for an answer whose reply meets Q
 --   Writes x n out                     == n is the number, and out the four values, of the reply for unpacking x
 --   told_side n d b c, told_part n a m == the answers of across and run from their parts
---
--- Assumes nothing.
-use Rattle.std.specs.Prelude.{List, [], ◌∷◌, ◌≡◌, ℕ, ℤ}
-use Rattle.refusals.specs.Answers.{Reply, reply}
-use Rattle.refusals.specs.declared.Answer.{Answer}
-use Rattle.refusals.specs.declared.Answer.TheVariants.{Code, Refused}
+use Rattle.std.specs.Prelude.{List, [], ◌∷◌, ◌≡◌, ℕ, ℤ, Result, Ok, Err}
+use Rattle.refusals.specs.Answers.{Reply, number, reply}
+use Rattle.refusals.specs.declared.Refusal.{Refusal}
 use Rattle.codes.specs.Calls.{Unpacking, Unpacked}
 use Rattle.mesh.specs.Answers.{Crossing, Part}
 
 -- "It gets one number, the code or else the refusal's."
-abbrev pub one_number : Answer → ℕ
-one_number (Code c) = c
-one_number (Refused k) = k
+abbrev pub one_number : Result ℕ Refusal → ℕ
+one_number (Ok c) = c
+one_number (Err e) = number e
 
 pub record Gives (Q : Reply → Type 0) (n : ℕ) : Type 0 where
-  pub answer : Answer
+  pub answer : Result ℕ Refusal
   pub meets : Q (reply answer)
   pub is : n ≡ one_number answer
 

@@ -1,32 +1,61 @@
-// The C interface, whole: each function stands in include/urdinhosa.h and promises what the call under it promises. The crate
-// urdinhosa_c exports them to C under these names.
+//! The C interface, whole: each function stands in include/urdinhosa.h and promises what the call under it promises. The crate
+//! urdinhosa_c exports them to C under these names. Numbers, slices and out-parameters are what C can hand over.
 
 #![tactic(auto)]
 
 ghost use Rattle.std.specs.Prelude.{true, ◌≡◌, ℕ, ◌^◌, ◌≤◌, List};
 ghost use Rattle.refusals.specs.Refusals.{Single};
-ghost use Rattle.refusals.specs.Answers.{Tells};
-ghost use Rattle.codes.specs.Codes.{Code};
+ghost use Rattle.refusals.specs.Answers.{told, unit_reply, Tells};
+ghost use Rattle.codes.specs.Codes.{IsCode};
 ghost use Rattle.codes.specs.Calls.{Packed, ParentOf, ChildOf};
 ghost use Rattle.points.specs.Located.{Located};
 ghost use Rattle.steps.specs.Stepped.{Stepped};
 ghost use Rattle.soundness.specs.Regions.{all_faces};
 ghost use Rattle.soundness.specs.Soundness.{SoundIn};
 ghost use Rattle.examine.specs.Examined.{whole_of};
-ghost use Rattle.mesh.specs.Answers.{outcome, told, crossing, across_reply};
+ghost use Rattle.mesh.specs.Answers.{outcome, crossing};
 ghost use Rattle.mesh.specs.Calls.{Freshened, Refined, Coarsened, AcrossOf, BoundsOf};
 ghost use Rattle.urdinhosa.specs.Exports.{one_number, Gives, Writes, told_side, told_part};
 
-use mesh::{Extent, Facing};
-use refusals::Answer;
+use codes::Code;
+use refusals::Refusal;
 use soundness::Met;
 
-fn one_number(answer: Answer) -> u64
+// The code, or else the refusal's number.
+fn one_number(answer: Result<Code, Refusal>) -> u64
     ensures { result ≡ one_number answer }
 {
     match answer {
-        Answer::Code(code) => code,
-        Answer::Refused(number) => number,
+        Ok(code) => code.bits(),
+        Err(refusal) => refusal.number(),
+    }
+}
+
+// The number of a change's answer; the leaf in the way, or 0, is written.
+fn number_and_blocker(answer: Result<(), Refusal>, blocker: &mut u64) -> u64
+    ensures { told result blocker.new ≡ unit_reply answer }
+{
+    match answer {
+        Ok(()) => {
+            *blocker = 0;
+            0
+        }
+        Err(refusal) => {
+            *blocker = refusal.value();
+            refusal.number()
+        }
+    }
+}
+
+// What lies across a side: the level difference, and the leaf's code or both.
+fn in_parts(met: Met) -> (i64, u64, u64)
+    ensures { told_side 0 result.0 result.1 result.2 ≡ crossing met }
+{
+    match met {
+        Met::Larger(leaf) => (-1, leaf, 0),
+        Met::Equal(leaf) => (0, leaf, 0),
+        Met::Smaller(low, high) => (1, low, high),
+        Met::Open => (0, 0, 0),
     }
 }
 
@@ -40,13 +69,13 @@ pub fn urdinhosa_unpack(code: u64, fields: &mut [u64; 4]) -> u64
     ensures { Writes code result fields.new }
 {
     match codes::unpack(code) {
-        codes::Fields::Of(solid, face, path, depth) => {
-            *fields = [solid, face, path, depth];
+        Ok(found) => {
+            *fields = [found.solid, found.face, found.path, found.depth];
             0
         }
-        codes::Fields::Refused(number) => {
+        Err(refusal) => {
             *fields = [0; 4];
-            number
+            refusal.number()
         }
     }
 }
@@ -69,21 +98,21 @@ pub fn urdinhosa_locate(solid: u64, face: u64, t: u64, l: u64, r: u64, depth: u6
     one_number(points::locate(solid, face, t, l, r, depth))
 }
 
-// The step by carries.
+/// The step by carries.
 pub fn urdinhosa_step(code: u64, direction: u64) -> u64
     ensures { Gives (Stepped code direction) result }
 {
     one_number(steps::step(code, direction))
 }
 
-// The step by digits.
+/// The step by digits.
 pub fn urdinhosa_walk(code: u64, direction: u64) -> u64
     ensures { Gives (Stepped code direction) result }
 {
     one_number(steps::walk(code, direction))
 }
 
-// Whether the two methods agree on a code and a direction: they do on all.
+/// Whether the two methods agree on a code and a direction: they do on all.
 pub fn methods_agree(code: u64, direction: u64) -> bool
     ensures { result ≡ true }
 {
@@ -99,77 +128,22 @@ pub fn urdinhosa_sound(slots: &[u64]) -> bool
 pub fn urdinhosa_fresh(slots: &mut [u64], solid: u64) -> u64
     ensures { Freshened solid (all_faces solid) slots.old (outcome (told result 0) slots.new) }
 {
-    mesh::in_parts(mesh::fresh(slots, solid)).number
+    match mesh::fresh(slots, solid) {
+        Ok(()) => 0,
+        Err(refusal) => refusal.number(),
+    }
 }
 
 pub fn urdinhosa_refine(slots: &mut [u64], leaf: u64, blocker: &mut u64) -> u64
     ensures { Refined (whole_of slots.old) slots.old leaf (outcome (told result blocker.new) slots.new) }
 {
-    let answer = mesh::in_parts(mesh::refine(slots, leaf));
-    *blocker = answer.value;
-    answer.number
+    number_and_blocker(mesh::refine(slots, leaf), blocker)
 }
 
 pub fn urdinhosa_coarsen(slots: &mut [u64], cell: u64, blocker: &mut u64) -> u64
     ensures { Coarsened (whole_of slots.old) slots.old cell (outcome (told result blocker.new) slots.new) }
 {
-    let answer = mesh::in_parts(mesh::coarsen(slots, cell));
-    *blocker = answer.value;
-    answer.number
-}
-
-// What lies across a side, in parts.
-#[derive(Clone, Copy)]
-struct Side {
-    number: u64,
-    level: i64,
-    first: u64,
-    second: u64,
-}
-
-fn side_in_parts(met: Met) -> Side
-    ensures { told_side result.number result.level result.first result.second ≡ crossing met }
-{
-    match met {
-        Met::Larger(leaf) => Side {
-            number: 0,
-            level: -1,
-            first: leaf,
-            second: 0,
-        },
-        Met::Equal(leaf) => Side {
-            number: 0,
-            level: 0,
-            first: leaf,
-            second: 0,
-        },
-        Met::Smaller(low, high) => Side {
-            number: 0,
-            level: 1,
-            first: low,
-            second: high,
-        },
-        Met::Open => Side {
-            number: 0,
-            level: 0,
-            first: 0,
-            second: 0,
-        },
-    }
-}
-
-fn facing_in_parts(facing: Facing) -> Side
-    ensures { told_side result.number result.level result.first result.second ≡ across_reply facing }
-{
-    match facing {
-        Facing::Side(met) => side_in_parts(met),
-        Facing::Refused(number) => Side {
-            number,
-            level: 0,
-            first: 0,
-            second: 0,
-        },
-    }
+    number_and_blocker(mesh::coarsen(slots, cell), blocker)
 }
 
 pub fn urdinhosa_across(
@@ -182,34 +156,38 @@ pub fn urdinhosa_across(
 ) -> u64
     ensures { AcrossOf (whole_of slots.now) slots.now leaf direction (told_side result level.new first.new second.new) }
 {
-    let answer = facing_in_parts(mesh::across(slots, leaf, direction));
-    let difference = answer.level;
-    *level = difference;
-    *first = answer.first;
-    *second = answer.second;
-    answer.number
+    match mesh::across(slots, leaf, direction) {
+        Ok(met) => {
+            (*level, *first, *second) = in_parts(met);
+            0
+        }
+        Err(refusal) => {
+            (*level, *first, *second) = (0, 0, 0);
+            refusal.number()
+        }
+    }
 }
 
 pub fn urdinhosa_run(slots: &[u64], cell: u64, start: &mut usize, count: &mut usize) -> u64
     ensures { BoundsOf (whole_of slots.now) slots.now cell (told_part result start.new count.new) }
 {
     match mesh::bounds(slots, cell) {
-        Extent::Part(from, leaves) => {
-            *start = from;
-            *count = leaves;
+        Ok(run) => {
+            *start = run.start;
+            *count = run.len();
             0
         }
-        Extent::Refused(number) => {
+        Err(refusal) => {
             *start = 0;
             *count = 0;
-            number
+            refusal.number()
         }
     }
 }
 
 // Theorems. Each function has an empty body and stands for what it ensures, so that the gate asks for it by name.
 
-// For any input each export has one answer.
+/// For any input each export has one answer.
 pub fn each_export_has_one_answer()
     ensures packed { (s f p d : ℕ) → Single (Gives (Packed s f p d)) }
     ensures parent { (x : ℕ) → Single (Gives (ParentOf x)) }
@@ -219,7 +197,7 @@ pub fn each_export_has_one_answer()
     ensures written { (x m n : ℕ) (a b : List ℕ) → Writes x m a → Writes x n b → (m ≡ n) × (a ≡ b) }
 {}
 
-// A code is never taken for a refusal's number.
+/// A code is never taken for a refusal's number.
 pub fn a_code_is_no_number_of_a_refusal()
-    ensures { (x : ℕ) → Code x → 2 ^ 62 ≤ x }
+    ensures { (x : ℕ) → IsCode x → 2 ^ 62 ≤ x }
 {}

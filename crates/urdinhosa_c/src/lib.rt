@@ -1,15 +1,15 @@
-// What C links: each function of include/urdinhosa.h, as the crate urdinhosa has it, with its clauses.
+//! What C links: each function of include/urdinhosa.h, as the crate urdinhosa has it, with its clauses.
 
 #![tactic(auto)]
 
-ghost use Rattle.refusals.specs.Answers.{Tells};
+ghost use Rattle.refusals.specs.Answers.{told, Tells};
 ghost use Rattle.codes.specs.Calls.{Packed, ParentOf, ChildOf};
 ghost use Rattle.points.specs.Located.{Located};
 ghost use Rattle.steps.specs.Stepped.{Stepped};
 ghost use Rattle.soundness.specs.Regions.{all_faces};
 ghost use Rattle.soundness.specs.Soundness.{SoundIn};
 ghost use Rattle.examine.specs.Examined.{whole_of};
-ghost use Rattle.mesh.specs.Answers.{outcome, told};
+ghost use Rattle.mesh.specs.Answers.{outcome};
 ghost use Rattle.mesh.specs.Calls.{Freshened, Refined, Coarsened, AcrossOf, BoundsOf};
 ghost use Rattle.urdinhosa.specs.Exports.{Gives, Writes, told_side, told_part};
 
@@ -48,7 +48,7 @@ pub extern "C" fn urdinhosa_locate(solid: u64, face: u64, t: u64, l: u64, r: u64
     urdinhosa::urdinhosa_locate(solid, face, t, l, r, depth)
 }
 
-// The step by carries.
+/// The step by carries.
 #[unsafe(no_mangle)]
 pub extern "C" fn urdinhosa_step(code: u64, direction: u64) -> u64
     ensures { Gives (Stepped code direction) result }
@@ -56,7 +56,7 @@ pub extern "C" fn urdinhosa_step(code: u64, direction: u64) -> u64
     urdinhosa::urdinhosa_step(code, direction)
 }
 
-// The step by digits.
+/// The step by digits.
 #[unsafe(no_mangle)]
 pub extern "C" fn urdinhosa_walk(code: u64, direction: u64) -> u64
     ensures { Gives (Stepped code direction) result }

@@ -1,20 +1,15 @@
--- The walk of the step by digits, on numbers: directions, digits and paths as the code has them.
+-- The walk of the step by digits, on numbers: digits and paths as the code has them.
 --
---   new_digit s d   == the number that the digit d is replaced by in direction s
---   turn_of s d     == what the walk does at the digit d in direction s: it stops or climbs, with that number
+--   turn_of s d     == what the walk does at the digit d in direction s: it stops or climbs, with that digit
 --   Walks s p d r x == of the path of d digits and number p the walk in direction s makes the path of number r, and x tells
 --                      whether it passes the first digit
---
--- Assumes nothing.
 use Rattle.std.specs.Prelude.{Bool, ◌≡◌, ℕ, if◌then◌else◌}
-use Rattle.solids.specs.Triangles.{side_of}
-use Rattle.geometry.specs.Paths.{digit_no, digit_of, number, digits}
+use Rattle.solids.specs.Triangles.{Side}
+use Rattle.geometry.specs.Corners.{Digit}
+use Rattle.geometry.specs.Paths.{number, digits}
 use Rattle.geometry.specs.Steps.{stops, replaced, walked, crosses}
 use Rattle.walk.specs.declared.Turn.{Turn}
 use Rattle.walk.specs.declared.Turn.TheVariants.{Stop, Climb}
-
-abbrev pub new_digit : ℕ → ℕ → ℕ
-new_digit s d = digit_no (replaced (side_of s) (digit_of d))
 
 -- The table of "The step by digits":
 --
@@ -22,11 +17,11 @@ new_digit s d = digit_no (replaced (side_of s) (digit_of d))
 --   0 left     | 11 to 10, 10 to 01 | 00 to 11, 01 to 00
 --   1 right    | 01 to 10, 10 to 11 | 00 to 01, 11 to 00
 --   2 vertical | 00 to 10, 10 to 00 | 01, 11 kept
-unfoldable pub turn_of : ℕ → ℕ → Turn
-turn_of s d = if stops (side_of s) (digit_of d) then Stop (new_digit s d) else Climb (new_digit s d)
+unfoldable pub turn_of : Side → Digit → Turn
+turn_of s d = if stops s d then Stop (replaced s d) else Climb (replaced s d)
 
 -- "From the last digit upwards [..]: a stopping digit is replaced and the walk ends; another is replaced and the walk
 -- climbs. [..] A walk that passes the first digit crosses a seam [..]."
-pub record Walks (s p d r : ℕ) (x : Bool) : Type 0 where
-  pub path : r ≡ number (walked (side_of s) (digits d p))
-  pub over : x ≡ crosses (side_of s) (digits d p)
+pub record Walks (s : Side) (p d r : ℕ) (x : Bool) : Type 0 where
+  pub path : r ≡ number (walked s (digits d p))
+  pub over : x ≡ crosses s (digits d p)

@@ -1,4 +1,4 @@
-//! Codes: pack, unpack, parent and child of the library, compared with the model of document 01.
+//! Codes: pack, unpack, parent and child of the library, compared with the model of the rules.
 
 mod model;
 

@@ -1,4 +1,4 @@
-//! The listing program `meshlist`, run on standard input: all that it prints, compared with the model of document 01.
+//! The listing program `meshlist`, run on standard input: all that it prints, compared with the model of the rules.
 //!
 //! The program is the file that MESHLIST names, or else the repository's own target/native/meshlist. The random tests
 //! run some thousands of inputs; MESHLIST_TIMES=100 makes them a hundred times as many.

@@ -1,4 +1,4 @@
-//! Meshes: the calls on a mesh of the library, compared with the model of document 01, which looks at all leaves.
+//! Meshes: the calls on a mesh of the library, compared with the model of the rules, which looks at all leaves.
 
 mod model;
 
@@ -190,7 +190,7 @@ fn mesh_after(solid: u64, length: usize, refined: &[u64]) -> Vec<u64> {
     slots
 }
 
-/// The mesh that document 01 lists, called M there.
+/// The mesh that the rules list, called M there.
 fn listed_mesh(length: usize) -> Vec<u64> {
     mesh_after(1, length, &[0x4000_0000_0000_0000])
 }

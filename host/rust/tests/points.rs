@@ -1,4 +1,4 @@
-//! Points: locate of the library, compared with the model of document 01, by its descent and by closed triangles.
+//! Points: locate of the library, compared with the model of the rules, by its descent and by closed triangles.
 
 mod model;
 

@@ -1,5 +1,4 @@
 -- The theorem of proofs/Table.
--- Assumes nothing.
 use Rattle.bench.proofs.Table.{table_holds}
 use Rattle.bench.proofs.the_bench_table_holds.Goals as goal
 

@@ -1,5 +1,4 @@
 -- Twelve zeros with a 1 put in one place.
--- Assumes nothing.
 use Rattle.geometry.proofs.Weights.{unit_set}
 use Rattle.corners.proofs.at_vertex.Goals as goal
 

@@ -1,16 +1,13 @@
 -- The search ends where the code would stand: it stands there, or nowhere.
--- Assumes nothing.
+use mathlib.Core.Path.{◌∙◌, sym}
 use native.Mathlib.Omega.{arith}
-use Rattle.leaves.proofs.Search.{found_at}
+use Rattle.leaves.proofs.Search.{below_leaf}
 use Rattle.leaves.proofs.leaf_at.Goals as goal
 
-pub returns-then-i-n : goal.returns-then-i-n
-returns-then-i-n c =
-    let a = c.args in
-    λ m. omega (arith, (found_at a.slots.now a.n a.code c.requires.0 c.requires.1 c.below-i.result c.below-i.ensures m).0)
+pub returns-in_err-get : goal.returns-in_err-get
+returns-in_err-get c =
+    rw c.from_residual.ensures (λ m. omega (arith, (below_leaf _ _ _ c.requires c.below-at.ensures m).0, c.in_err-get.ensures.lookup))
 
-pub returns-then-slots-i : goal.returns-then-slots-i
-returns-then-slots-i c =
-    let a = c.args in
-    let b = c.below-i in
-    λ m. c.if-slots-i.true (found_at a.slots.now a.n a.code c.requires.0 c.requires.1 b.result b.ensures m).1
+pub returns-else-branch-code : goal.returns-else-branch-code
+returns-else-branch-code c =
+    λ m. c.if-branch-code.false (c.in_ok-get.ensures.lookup.4 (omega arith) 0 ∙ (below_leaf _ _ _ c.requires c.below-at.ensures m).1)

@@ -1,5 +1,4 @@
 -- The law of singleness.
--- Assumes nothing.
 use Rattle.listing.proofs.Single.{prints_one}
 use Rattle.listing.proofs.each_input_prints_one_text.Goals as goal
 

@@ -1,5 +1,4 @@
 -- What has been read lies in the buffer.
--- Assumes nothing.
 use Rattle.std.proofs.Common.{length, ◌-◌, ◌≤◌}
 use Rattle.meshlist.proofs.read_full.Given as goal
 

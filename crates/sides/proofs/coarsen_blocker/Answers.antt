@@ -1,48 +1,44 @@
 -- The leaves searched are the four children, and a leaf smaller than one of them is two levels deeper than the cell.
--- Assumes nothing.
+use mathlib.Core.Bool.{true}
+use Rattle.std.proofs.Common.{rules}
 use mathlib.Core.List.{[], ◌∷◌}
-use mathlib.Core.Path.{◌≡◌, refl, ◌∙◌}
+use mathlib.Core.Path.{◌≡◌, refl, ◌∙◌, sym, subst}
 use Prim.Native.Nat.{ℕ, ◌<◌}
-use native.Mathlib.Omega.{arith}
 use lib.ListN.{get_or}
+use Rattle.codes.specs.Codes.{depth}
 use Rattle.codes.specs.Places.{child_code}
 use Rattle.codes.proofs.Places.{child_place}
-use Rattle.sides.proofs.Blocked.{four_deep, kids_are, coarsen_in, coarsen_all}
+use Rattle.soundness.specs.Leaves.{Leaf}
+use Rattle.sides.proofs.Blocked.{four_deep, kids_are, coarsen_all}
 use Rattle.sides.proofs.coarsen_blocker.Goals as goal
-use Rattle.sides.proofs.coarsen_blocker.Goals.{After-child_of-d}
+use Rattle.sides.proofs.coarsen_blocker.Goals.{After-bits-number, After-child-4}
 
-pub child_of-a-requires : goal.child_of-a-requires
-child_of-a-requires c =
-    (c.requires.1.code, omega arith, four_deep _ _ _ c.requires.1)
+deep : (c : After-bits-number) → depth c.args.cell < 26
+deep c = four_deep _ _ _ c.codes-codes.ensures.mesh c.bits-number.ensures.code c.requires
 
-pub child_of-b-requires : goal.child_of-b-requires
-child_of-b-requires c =
-    (c.requires.1.code, omega arith, four_deep _ _ _ c.requires.1)
+pub child-requires : goal.child-requires
+child-requires c = deep (goal.at.child-requires c).After-bits-number
 
-pub child_of-c-requires : goal.child_of-c-requires
-child_of-c-requires c =
-    (c.requires.1.code, omega arith, four_deep _ _ _ c.requires.1)
+pub child-requires-2 : goal.child-requires-2
+child-requires-2 c = deep (goal.at.child-requires-2 c).After-bits-number
 
-pub child_of-d-requires : goal.child_of-d-requires
-child_of-d-requires c =
-    (c.requires.1.code, omega arith, four_deep _ _ _ c.requires.1)
+pub child-requires-3 : goal.child-requires-3
+child-requires-3 c = deep (goal.at.child-requires-3 c).After-bits-number
 
-kids : (c : After-child_of-d) → (q : ℕ) → q < 4 →
-    get_or (c.child_of-a.result ∷ c.child_of-b.result ∷ c.child_of-c.result ∷ c.child_of-d.result ∷ []) q 0 ≡
-    child_code c.args.cell q
+pub child-requires-4 : goal.child-requires-4
+child-requires-4 c = deep (goal.at.child-requires-4 c).After-bits-number
+
+kids : (c : After-child-4) → (q : ℕ) → q < 4 → get_or (c.child.result ∷ c.child-2.result ∷ c.child-3.result ∷ c.child-4.result ∷ []) q 0 ≡ child_code c.args.cell q
 kids c =
-    let m = c.requires.1 in
-    let d = four_deep _ _ _ m in
-    kids_are _ _ _ _ _
-    (c.child_of-a.ensures ∙ child_place _ _ m.code d)
-    (c.child_of-b.ensures ∙ child_place _ _ m.code d)
-    (c.child_of-c.ensures ∙ child_place _ _ m.code d)
-    (c.child_of-d.ensures ∙ child_place _ _ m.code d)
+    let w = c.bits-number.ensures.code in
+    let d = four_deep _ _ _ c.codes-codes.ensures.mesh w c.requires in
+    kids_are _ _ _ _ _ (c.child.ensures ∙ child_place _ _ w d) (c.child-2.ensures ∙ child_place _ _ w d)
+    (c.child-3.ensures ∙ child_place _ _ w d) (c.child-4.ensures ∙ child_place _ _ w d)
 
-pub least_blocker-requires : goal.least_blocker-requires
-least_blocker-requires c =
-    (c.requires.0, coarsen_in _ _ _ c.requires.1 _ refl (kids (goal.at.least_blocker-requires c).After-child_of-d))
+pub least_blocker-requires-clause-leaves : goal.least_blocker-requires-clause-leaves
+least_blocker-requires-clause-leaves c =
+    λ i l. subst (Leaf c.args.mesh.now.leaves) (sym (kids (goal.at.least_blocker-requires-clause-leaves c).After-child-4 i l)) (c.requires i l)
 
 pub returns : goal.returns
 returns c =
-    coarsen_all _ _ _ c.requires.1 _ refl (kids (goal.at.returns c).After-child_of-d) _ c.least_blocker.ensures
+    coarsen_all _ _ (deep (goal.at.returns c).After-bits-number) _ refl (kids (goal.at.returns c).After-child-4) _ (c.least_blocker.ensures true (λ m r p. search rules))

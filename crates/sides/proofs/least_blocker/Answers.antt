@@ -1,37 +1,32 @@
 -- At every side the least of the sides before it is known; a leaf in the way that is the first of the mesh is the least of all.
--- Assumes nothing.
-use native.Mathlib.Omega.{arith}
-use lib.ListN.{get_or, take}
-use Rattle.sides.specs.Sides.{Stands, Blocker}
-use Rattle.sides.proofs.Candidates.{least_of_side}
-use Rattle.sides.proofs.Rows.{all_in, seen_more, seen_row, seen_all, first_least}
+use mathlib.Core.List.{List}
+use mathlib.Core.Path.{◌∙◌, ap}
+use Prim.Native.Nat.{ℕ}
+use lib.ListN.{get_or}
+use Rattle.sides.proofs.Rows.{seen_pass, seen_more, seen_row, seen_all, one_side, first_least}
 use Rattle.sides.proofs.least_blocker.Goals as goal
-use Rattle.sides.proofs.least_blocker.Goals.{After-candidate-blocker}
-
-one_side : (c : After-candidate-blocker) →
-    let a = c.args in
-    let i = c.search.i in
-    let side = c.loop-side.side in
-    Blocker (Stands (take a.n a.slots.now) a.smaller (get_or a.leaves.now i 0) side) c.candidate-blocker.result
-one_side c =
-    let i = c.search.i in
-    let m = c.side_of in
-    least_of_side _ _ _ _ (all_in _ _ _ i c.requires.1 (omega arith)) _ m.result _ m.ensures c.candidate-blocker.ensures
+use Rattle.sides.proofs.least_blocker.Goals.{in-Some+else-blocker-first, in_default, then-loop-leaf-test+then-loop-side-test+in-Some+then-blocker-first, else-loop-leaf-test}
 
 pub loop-side-preserved : goal.loop-side-preserved
-loop-side-preserved c =
-    let l = c.loop-side in
-    (omega arith, seen_more _ _ _ _ l.side _ _ _ (omega arith) l.invariant.1 (one_side (goal.at.loop-side-preserved c).After-candidate-blocker) c.lower-least.ensures)
+loop-side-preserved g c = λ small h.
+    let B = c.loop-side.invariant small h in
+    let k = h c.side_of.result c.blocks-in-loop-side.result c.blocks-in-loop-side.ensures in
+    let b = one_side _ small _ _ _ _ _ _ c.loop-leaf-test.true c.loop-side-test.true c.leaf-item.is c.side_of.ensures k in
+    elim c.match-blocks.branch [
+      | in-Some+else-blocker-first w ↦ let b' = rw w.in-Some.is at b in rw w.least-is (seen_more _ _ _ _ _ c.loop-side-test.true _ _ _ B b' w.lower.ensures)
+      | in_default w ↦ rw w.least-is (seen_pass _ _ _ _ _ c.loop-side-test.true _ B (rw w.in_default.is at b))
+    ]
 
-pub search-preserved : goal.search-preserved
-search-preserved c = (omega arith, seen_row _ _ _ _ _ _ (omega arith) c.loop-side.invariant.1)
+pub loop-leaf-preserved : goal.loop-leaf-preserved
+loop-leaf-preserved g c = λ small h. seen_row _ _ _ _ _ _ c.loop-side-test.false (c.loop-side.invariant small h)
 
-pub returns-then-leaves-i : goal.returns-then-leaves-i
-returns-then-leaves-i c = seen_all _ _ _ _ _ c.search.invariant.0 (omega arith) c.search.invariant.1
-
-pub returns-then-blocker-slots : goal.returns-then-blocker-slots
-returns-then-blocker-slots c =
-    let i = c.search.i in
-    let side = c.loop-side.side in
-    first_least _ _ _ _ _ c.requires.0 c.requires.1 i side c.candidate-blocker.result (omega arith) (omega arith) (omega arith)
-    (one_side (goal.at.returns-then-blocker-slots c).After-candidate-blocker)
+pub returns : goal.returns
+returns g c = λ small h.
+    elim c.loop-leaf-test.branch [
+      | then-loop-leaf-test+then-loop-side-test+in-Some+then-blocker-first w ↦
+          let k = h w.side_of.result w.blocks-in-loop-side.result w.blocks-in-loop-side.ensures in
+          let b = rw w.in-Some.is at (one_side _ small _ _ _ _ _ _ w.loop-leaf-test.true w.loop-side-test.true w.leaf-item.is w.side_of.ensures k) in
+          let e = w.if-blocker-first.true ∙ ap (λ (L : List ℕ). get_or L 0 0) c.codes.ensures.codes in
+          rw w.result-is (first_least _ _ _ _ _ _ c.codes.ensures.mesh.mesh.covers.ascend w.loop-leaf-test.true w.loop-side-test.true e b)
+      | else-loop-leaf-test w ↦ rw w.result-is (seen_all _ _ _ _ _ c.loop-leaf.auto.leaf-index-end w.loop-leaf-test.false (c.loop-leaf.invariant small h))
+    ]

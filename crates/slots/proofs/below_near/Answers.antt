@@ -1,25 +1,17 @@
--- Of two slots around the guess the first is less than the key and the second is not, so the search begins between them.
--- Assumes nothing.
-use Rattle.std.proofs.Common.{◌≡◌, ℕ, ◌+◌, ◌-◌, ◌<◌, ◌≤◌, get_or, take, subst, arith, length-take-le, get_or-take, ltb-false, leb-true}
-use Rattle.slots.specs.Slots.{Within}
-use Rattle.slots.proofs.Search.{within_two}
+-- Of the slots around the guess the first is less than the key and the last is not, so the answer is among them.
+use Rattle.std.proofs.Common.{◌≡◌, ℕ, ◌+◌, ◌-◌, ◌≤◌, get_or, take, drop, ap, arith}
+use Rattle.slots.proofs.Search.{near_ascends, near_below}
 use Rattle.slots.proofs.below_near.Goals as goal
 
-pub below_within-requires : goal.below_within-requires
-below_within-requires c =
+pub below-requires-then-key-near : goal.below-requires-then-key-near
+below-requires-then-key-near c = near_ascends c.args.leaves.now _ _ c.requires
+
+pub returns-then-key-near : goal.returns-then-key-near
+returns-then-key-near c =
     let a = c.args in
-    let xs = a.slots.now in
-    let l = length-take-le a.n xs c.requires.0 in
+    let xs = a.leaves.now in
     let lo : ℕ = a.guess - 64 in
-    let hi : ℕ = a.guess + 64 - 1 in
-    let h : hi < a.n = omega (arith, ltb-false) in
-    let e : hi + 1 ≡ lo + 128 = omega arith in
-    let less : get_or xs lo 0 < a.key = omega arith in
-    let rest : a.key ≤ get_or xs hi 0 = omega (arith, leb-true) in (
-      c.requires.0,
-      c.requires.1,
-      omega arith,
-      subst (Within (take a.n xs) a.key lo) e
-          (within_two (take a.n xs) a.key c.requires.1 lo hi (omega arith) (omega arith)
-          (omega (arith, get_or-take a.n xs lo 0 (omega arith))) (omega (arith, get_or-take a.n xs hi 0 h))),
-    )
+    let n : ℕ = a.guess + 64 - lo in
+    let e : n - 1 ≡ 127 = omega arith in
+    let last : a.key ≤ get_or (take n (drop lo xs)) (n - 1) 0 = omega (arith, ap (λ (i : ℕ). get_or (take n (drop lo xs)) i 0) e) in
+    near_below xs lo n c.requires (omega arith) (omega arith) a.key _ c.if-near-key.true last c.below-then-key-near.ensures

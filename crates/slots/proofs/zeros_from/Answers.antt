@@ -1,17 +1,15 @@
--- The slots from `n` up to `i` are joined, and what is joined is zero only where each of them is.
--- Assumes nothing.
-use Rattle.std.proofs.Common.{◌≡◌, ℕ, length, subst, arith}
-use Rattle.slots.proofs.Zeros.{Joined, joined_more, joined_tells}
+-- What is joined is zero only where each of the slots from `n` on is.
+use Rattle.std.proofs.Common.{ℕ, List, drop, take, ap, sym, ◌∙◌, rules, subst, length-drop}
+use Rattle.std.proofs.Math.Seq.{take-length}
+use Rattle.std.proofs.lemmas.Fn.{fold_over, slice_gives, fronts}
+use Rattle.slots.proofs.Zeros.{Joined, joined_none, joined_more, joined_tells}
 use Rattle.slots.proofs.zeros_from.Goals as goal
-
-pub loop-i-preserved : goal.loop-i-preserved
-loop-i-preserved c =
-    let a = c.args in
-    let l = c.loop-i in
-    (omega arith, omega arith, joined_more a.slots.now a.n l.i l.joined (omega arith) (omega arith) l.invariant.2)
 
 pub returns : goal.returns
 returns c =
-    let l = c.loop-i in
-    let e : l.i ≡ length c.args.slots.now = omega arith in
-    joined_tells c.args.slots.now c.args.n l.joined c.requires (subst (λ (i : ℕ). Joined c.args.slots.now c.args.n i l.joined) e l.invariant.2)
+    let n = c.args.n in
+    let xs = c.args.slots.now in
+    let j = fold_over fronts (λ y. y.now) _ Joined _ (λ ys a x b f' j k. let more = joined_more ys a x.now j in search rules)
+    _ _ _ _ (slice_gives c.iter.result) joined_none c.fold.ensures.ran in
+    let all = ap (λ (k : ℕ). take k (drop n xs)) (sym (length-drop n xs)) ∙ take-length (drop n xs) in
+    joined_tells xs n c.fold.result (subst (λ (l : List ℕ). Joined l c.fold.result) (c.iter.ensures.rest ∙ all) j)

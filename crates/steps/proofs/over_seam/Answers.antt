@@ -1,38 +1,48 @@
 -- The next face is taken from the rows; the path is the one that the walk left, or the mirrored one.
--- Assumes nothing.
-use Rattle.std.proofs.Common.{◌≡◌, ℕ, ◌*◌, ◌/◌, ◌^◌, ◌<◌, map, ◌∙◌, ap₂}
-use Rattle.solids.specs.Solids.{solid_of, next_face, mirrored}
-use Rattle.solids.specs.Triangles.{side_of}
-use Rattle.geometry.specs.Steps.{mirror}
-use Rattle.codes.specs.Codes.{solid, depth, joined, face, path_bits, cell_of}
-use Rattle.steps.proofs.Stepped.{next_fits}
-use Rattle.steps.proofs.Words.{over_chosen, go_over, mirrored_word}
+use Rattle.std.proofs.Common.{◌≡◌, ℕ, ◌/◌, ◌^◌, cond, sym, ◌∙◌, subst, ap₂}
+use Rattle.solids.specs.Triangles.{side_no}
+use Rattle.solids.specs.Solids.{Solid, next_face, mirrored}
+use Rattle.codes.specs.Codes.{solid, depth, joined, IsCode}
+use Rattle.steps.specs.Stepped.{step_code}
+use Rattle.steps.proofs.Stepped.{next_fits, step_code_is_formed}
+use Rattle.steps.proofs.Words.{solid_told, over_chosen, go_over, mirrored_word}
 use Rattle.steps.proofs.over_seam.Goals as goal
-use Rattle.steps.proofs.over_seam.Goals.{After-is_mirrored, After-mirror-turned, After-next_face-next}
+use Rattle.steps.proofs.over_seam.Goals.{Joined-is_mirrored, After-with_face, then-is_mirrored, else-is_mirrored}
 
--- the face across the seam, and whether the seam is mirrored, of the code's own fields
-there : (b : After-next_face-next) → let a = b.args in b.next_face-next.result ≡ next_face (solid_of (solid a.code)) (side_of a.side) (face a.code)
-there b = rw (b.solid_of-solid.ensures, b.face_of-face.ensures) at b.next_face-next.ensures
-
-few : (b : After-next_face-next) → b.next_face-next.result < 32
-few b = rw (there b) (next_fits b.args.code b.args.side b.requires.0)
-
-told : (b : After-is_mirrored) → let a = b.args in b.is_mirrored.result ≡ mirrored (solid_of (solid a.code)) (side_of a.side) (face a.code)
-told b =
-    rw (b.solid_of-solid.ensures, b.face_of-face.ensures) at b.is_mirrored.ensures
-
--- the mirrored path
-turned : (m : After-mirror-turned) → m.mirror-turned.result ≡ path_bits (map mirror (cell_of m.args.code).path) * 2 ^ 12
-turned m =
-    mirrored_word m.args.code m.args.side m.requires.0 m.word_of.result m.mirror-turned.result m.word_of.ensures m.mirror-turned.ensures
+chosen : (c : Joined-is_mirrored) → c.if-is_mirrored.path ≡ cond c.is_mirrored.result c.mirror-turned.result c.args.word
+chosen c =
+    elim c.if-is_mirrored.branch [
+      | then-is_mirrored w ↦ rw w.if-is_mirrored.true w.path-is
+      | else-is_mirrored w ↦ rw w.if-is_mirrored.false w.path-is
+    ]
 
 pub with_face-requires : goal.with_face-requires
 with_face-requires c =
-    (few (goal.at.with_face-requires c).After-next_face-next, rw c.choose-path.ensures (over_chosen c.args.code c.args.side c.requires.0 c.is_mirrored.result c.requires.2 (turned (goal.at.with_face-requires c).After-mirror-turned)))
+    let x : ℕ = c.args.code in
+    let w = c.word_of.ensures in
+    let turned = mirrored_word x c.args.side w.code c.word_of.result c.mirror-turned.result w.word c.mirror-turned.ensures in
+    let so = solid_told c.solid-solid.result c.solid-solid.ensures in
+    let there = c.next_face-next.ensures ∙ ap₂ (λ (t : Solid) (f : ℕ). next_face t c.args.side f) so c.face-face.ensures.face in
+    record {
+      face = rw there (next_fits x c.args.side w.code);
+      new = rw (chosen (goal.at.with_face-requires c).Joined-is_mirrored) (over_chosen x c.args.side w.code c.is_mirrored.result c.requires turned);
+    }
+
+across : (c : After-with_face) → c.if-is_mirrored.path ≡ cond c.is_mirrored.result c.mirror-turned.result c.args.word → c.with_face.result ≡ step_code (side_no c.args.side) c.args.code
+across c path =
+    let x : ℕ = c.args.code in
+    let so = solid_told c.solid-solid.result c.solid-solid.ensures in
+    let there = c.next_face-next.ensures ∙ ap₂ (λ (t : Solid) (f : ℕ). next_face t c.args.side f) so c.face-face.ensures.face in
+    let told = c.is_mirrored.ensures ∙ ap₂ (λ (t : Solid) (f : ℕ). mirrored t c.args.side f) so c.face-face.ensures.face in
+    let w = c.word_of.ensures in
+    let turned = mirrored_word x c.args.side w.code c.word_of.result c.mirror-turned.result w.word c.mirror-turned.ensures in
+    c.with_face.ensures
+    ∙ ap₂ (λ (f p : ℕ). joined (solid x) f (p / 2 ^ 12) (depth x)) there path
+    ∙ go_over x c.args.side w.code c.is_mirrored.result c.requires told turned
+
+pub new-requires : goal.new-requires
+new-requires c =
+    subst IsCode (sym (across (goal.at.new-requires c).After-with_face (chosen (goal.at.new-requires c).Joined-is_mirrored))) (step_code_is_formed c.args.code (side_no c.args.side) c.word_of.ensures.code)
 
 pub returns : goal.returns
-returns c =
-    let a = c.args in
-    c.with_face.ensures
-    ∙ ap₂ (λ (f p : ℕ). joined (solid a.code) f (p / 2 ^ 12) (depth a.code)) (there (goal.at.returns c).After-next_face-next) c.choose-path.ensures
-    ∙ go_over a.code a.side c.requires.0 c.is_mirrored.result c.requires.2 (told (goal.at.returns c).After-is_mirrored) (turned (goal.at.returns c).After-mirror-turned)
+returns c = c.new.ensures ∙ across (goal.at.returns c).After-with_face (chosen (goal.at.returns c).Joined-is_mirrored)

@@ -1,5 +1,4 @@
 -- The law of proofs/Laws.
--- Assumes nothing.
 use Rattle.steps.proofs.Laws.{parent_along}
 use Rattle.steps.proofs.the_parent_steps_along.Goals as goal
 

@@ -1,5 +1,4 @@
 -- The law of proofs/Stepped.
--- Assumes nothing.
 use Rattle.steps.proofs.Stepped.{stepped_single}
 use Rattle.steps.proofs.the_step_has_one_answer.Goals as goal
 

@@ -1,5 +1,4 @@
 -- A cell of depth at most 26 begins at its place if the digits after its last are zero; the mask has these.
--- Assumes nothing.
 use native.Mathlib.Omega.{arith}
 use Rattle.tiling.proofs.Places.{some_places, begins_test}
 use Rattle.tiling.proofs.begins.Goals as goal

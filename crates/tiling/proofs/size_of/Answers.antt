@@ -1,5 +1,4 @@
 -- A cell has 4 ^ (26 - depth) places, a power of two that fits a word.
--- Assumes nothing.
 use Rattle.tiling.proofs.Places.{size_bits}
 use Rattle.tiling.proofs.size_of.Goals as goal
 

@@ -1,5 +1,4 @@
 -- Both calls have one promise, which leaves one number.
--- Assumes nothing.
 use borrow.Author.Tests.{eq-eqb}
 use Rattle.steps.specs.Stepped.{Stepped}
 use Rattle.steps.proofs.Stepped.{stepped_single}

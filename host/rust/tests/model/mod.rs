@@ -1,4 +1,4 @@
-//! Document 01 as plain Rust, to compare the library with.
+//! The rules as plain Rust, to compare the library with.
 //!
 //! It is written from the document's words alone and shares nothing with the library or its wrapper. It is slow and
 //! simple on purpose: a cell is a list of digits, a triangle is three lists of weights, a code is taken apart by
