@@ -1,5 +1,6 @@
 //! The step on a whole path at once, by masks that mark digits and an addition whose carry runs off the top: no loop and no
-//! branch. A path stands left-aligned in a word: its first digit in the top two bits, zeros after its last digit.
+//! branch. A path stands left-aligned in a word: its first digit in the top two bits, zeros after its last digit. A depth is a number:
+//! a type of depths up to 26 would be opened again in each shift.
 
 #![tactic(auto)]
 

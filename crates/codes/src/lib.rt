@@ -22,7 +22,7 @@ use std::marker::Model;
 
 const PATH: u64 = 0x000f_ffff_ffff_ffff;
 
-/// The four fields of a number, be it a code or not. The 52 bits of the path have its first digit on top.
+/// The four fields of a number, be it a code or not: `Packed` speaks of any four. The 52 bits of the path have its first digit on top.
 #[derive(Clone, Copy, Debug, PartialEq, Eq)]
 pub struct Fields {
     pub solid: u64,
@@ -182,7 +182,8 @@ impl Code {
     }
 
     /// The digit put in its place, the depth one more.
-    // That it has children is asked: a type of codes that have would be made, and taken apart again, in `mesh` alone.
+    // That it has children is asked, here and of those who hand the cell on: a type of codes that have would be one test more at each
+    // of the places where they are made, and no test less.
     pub fn child(self, digit: Digit) -> Code
         requires { depth self < 26 }
         ensures { result ≡ code_of (child (cell_of self) digit) }
@@ -194,7 +195,7 @@ impl Code {
 }
 
 /// The code of a solid, a face, a path of 52 bits with its first digit on top, and a depth. As in the calls below, the numbers are a
-/// caller's, and untested.
+/// caller's, and untested: `Packed`, `Unpacked`, `ParentOf` and `ChildOf` speak of any.
 pub fn pack(solid: u64, face: u64, path: u64, depth: u64) -> Result<Code, Refusal>
     ensures { Packed solid face path depth (reply result) }
 {

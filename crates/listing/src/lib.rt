@@ -1,5 +1,5 @@
 //! What `meshlist` prints, as one function from the bytes that are read to the page that is written. Text is put in by `push_str`: `write!`
-//! may fail, and nothing here can.
+//! may fail, and nothing here can. Each function asks for the room that its own text takes.
 
 #![tactic(auto)]
 
@@ -81,6 +81,7 @@ fn put_leaf(page: &mut ArrayString<PAGE>, mesh: &Mesh<'_>, leaf: Code)
     ensures upper_bound { array_string_len page.new ≤ array_string_len page.old + 26 }
 {
     text::put_digits(page, 16, 16, leaf.bits());
+    // Side by side: a loop over three would need an invariant of what stands there.
     page.push_str(difference(sides::side_of(mesh, leaf, Side::Left)));
     page.push_str(difference(sides::side_of(mesh, leaf, Side::Right)));
     page.push_str(difference(sides::side_of(mesh, leaf, Side::Vertical)));

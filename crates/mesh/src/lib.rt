@@ -1,6 +1,6 @@
 //! The calls on a mesh: a lent slice of 64-bit slots, at most 8,192, leaves first and then zeros. A call examines the slice
 //! once and then goes on with inner functions, which rest on a sound mesh. No call has a `requires`: the
-//! numbers are a caller's, and untested. A refusal writes nothing.
+//! numbers are a caller's, and untested, and its promise speaks of any. A refusal writes nothing.
 
 #![tactic(auto)]
 

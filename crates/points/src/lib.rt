@@ -76,7 +76,8 @@ impl Weights {
         }
     }
 
-    // The path down to a depth, as a number with the last digit lowest.
+    // The path down to a depth, as a number with the last digit lowest. The depth is a number: a type of depths would be opened again
+    // to count them.
     fn descend(self, depth: u64) -> u64
         requires whole { self.t + self.l + self.r ≡ 2 ^ 26 }
         requires depth { depth ≤ 26 }
@@ -93,8 +94,8 @@ impl Weights {
     }
 }
 
-/// The code of the cell of a depth in which a point is located. The numbers are a caller's, and untested. The point is told by its weights at the tip, the left and the
-/// right corner of the face.
+/// The code of the cell of a depth in which a point is located, told by its weights at the tip, the left and the right corner of the
+/// face. The numbers are a caller's, and untested: `Located` speaks of any.
 pub fn locate(solid: u64, face: u64, t: u64, l: u64, r: u64, depth: u64) -> Result<Code, Refusal>
     ensures { Located solid face t l r depth (reply result) }
 {

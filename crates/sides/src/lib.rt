@@ -1,4 +1,5 @@
-//! What a side of a leaf of a mesh meets, and the least leaf in the way of a change.
+//! What a side of a leaf of a mesh meets, and the least leaf in the way of a change. That a code is a leaf ties it to the mesh, and
+//! neither type can hold it: so it is asked.
 
 #![tactic(auto)]
 
@@ -103,6 +104,7 @@ pub fn coarsen_blocker(mesh: &Mesh<'_>, cell: Code) -> Option<u64>
 {
     // How deep the cell is follows from what is told with these.
     let (_codes, _number) = (mesh.codes(), cell.bits());
+    // Codes, where `leaves` has their numbers: with one function over both, by `map`, the goal stayed open.
     let children = [
         cell.child(Digit::Tip),
         cell.child(Digit::Left),

@@ -1,5 +1,6 @@
 //! Slots of a mesh as numbers in a slice: searched, cleared, one made four and four made one. Nothing here knows of triangles. C lends
-//! one slice, leaves first and then zeros: so what changes it is told how many slots are in use, `n`.
+//! one slice, leaves first and then zeros: so what changes or reads the rest of it is told how many slots are in use, `n`. That leaves
+//! ascend is asked: a search takes any slice that does.
 
 #![tactic(auto)]
 

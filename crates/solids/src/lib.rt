@@ -18,6 +18,7 @@ pub enum Side {
     Vertical,
 }
 
+// A number is told by `number`, here and of solids, digits and refusals: `u64::from` would not say which number it is.
 impl Side {
     /// The sides, by their numbers.
     pub const ALL: [Side; 3] = [Side::Left, Side::Right, Side::Vertical];
@@ -80,7 +81,8 @@ impl TryFrom<u64> for Solid {
 }
 
 /// What each solid carries: its numbers of faces and vertices, and rows with a number for each face.
-// A face is cast to index a row: `usize::try_from` would have a case that cannot be.
+// A face is cast to index a row: `usize::try_from` would have a case that cannot be. That it is a face of the solid is asked where it
+// is read: a type of a solid's faces would need the solid beside it.
 pub trait Platonic {
     ghost solid: { Solids·Solid };
 

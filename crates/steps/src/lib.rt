@@ -92,7 +92,7 @@ pub fn walk_of(code: Code, side: Side) -> Code
     neighbour(code, side, Walked { path, ..walked })
 }
 
-/// The step over a side, by carries. The numbers are a caller's, and untested.
+/// The step over a side, by carries. The numbers are a caller's, and untested: `Stepped` speaks of any.
 #[tactic(auto, using(crate::proofs::Stepped::stepped))]
 pub fn step(code: u64, direction: u64) -> Result<Code, Refusal>
     ensures { Stepped code direction (reply result) }
@@ -100,7 +100,7 @@ pub fn step(code: u64, direction: u64) -> Result<Code, Refusal>
     Ok(step_of(Code::try_from(code)?, Side::try_from(direction)?))
 }
 
-/// The step over a side, by digits.
+/// The step over a side, by digits, of such numbers.
 // One line, as `step` is: a function over both methods would be no plainer.
 #[tactic(auto, using(crate::proofs::Stepped::stepped))]
 pub fn walk(code: u64, direction: u64) -> Result<Code, Refusal>

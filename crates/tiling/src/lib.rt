@@ -13,6 +13,7 @@ use soundness::regions::Faces;
 use std::marker::Model;
 
 /// The size of a cell, in places.
+// Of a depth by its number, which may be that of no code: `begins` reads it off a slot.
 pub fn size_of(depth: u64) -> u64
     requires { depth ≤ 26 }
     ensures { result ≡ size depth }
@@ -20,13 +21,17 @@ pub fn size_of(depth: u64) -> u64
     1 << (52 - 2 * depth)
 }
 
-// The first place of the set from `place` on; `last` if there is none below it.
+// The first place of the set from `place` on; `last` if there is none below it, which the pass then compares.
 fn next_place(faces: Faces, last: u64, place: u64) -> u64
     requires order { place ≤ last }
     requires last { last < 2 ^ 60 }
     requires whole { last % 2 ^ 52 ≡ 0 }
     ensures { Skipped faces last place result }
 {
+    // Asked before the search, since most leaves end within a face of the set.
+    if faces.has_place(place) {
+        return place;
+    }
     match (place >> 52..last >> 52).find(|&face| faces.contains(face % 32)) {
         Some(face) => place.max(face << 52),
         None => last,
@@ -48,7 +53,8 @@ fn begins(code: u64, want: u64) -> bool
 }
 
 /// Leaves that tile the faces of a set, of some solid, and that set.
-// A type of its own beside `Mesh`, with another invariant: one type over both would need a parameter that only proofs read.
+// A type of its own beside `Mesh`, with another invariant: one type over both would need a parameter that only proofs read. Nothing
+// prints or compares it, and a struct with a lifetime and a model is never `Copy`.
 #[derive(Drop)]
 pub struct Tiles<'a> {
     codes: &'a [u64],

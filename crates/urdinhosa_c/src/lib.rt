@@ -1,4 +1,5 @@
-//! What C links: each function of include/urdinhosa.h, as the crate urdinhosa has it, with its clauses.
+//! What C links: each function of include/urdinhosa.h, as the crate urdinhosa has it, with its clauses. They stand twice, since programs
+//! stand on a library, and a static library exports its own functions only.
 
 #![tactic(auto)]
 

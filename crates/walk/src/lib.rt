@@ -1,4 +1,5 @@
-//! The step by digits: the walk over a path, from its last digit upwards.
+//! The step by digits: the walk over a path, from its last digit upwards. A depth is a number: a type of depths would be opened again to
+//! count them.
 
 #![tactic(auto)]
 
