@@ -40,6 +40,7 @@ fn at_vertex(vertex: u64) -> [u64; 12]
 }
 
 /// The corners of a face.
+// That it is a face of the solid is asked: the trait `Platonic` says why.
 pub fn of_face(solid: Solid, face: u64) -> Corners
     requires { face < faces solid }
     ensures { AreCorners result (face_corners solid face) }

@@ -17,7 +17,7 @@ use solids::Solid;
 use soundness::regions::Faces;
 use std::ops::Range;
 
-/// Where a code stands among the leaves.
+/// Where a code stands among the leaves: any that ascend.
 pub fn leaf_at(leaves: &[u64], code: u64) -> Option<usize>
     requires { Ascends leaves.now }
     ensures { LeafAt leaves.now code result }
@@ -30,7 +30,7 @@ pub fn leaf_at(leaves: &[u64], code: u64) -> Option<usize>
     }
 }
 
-// The four children of a cell, ascending.
+// The four children of a cell, ascending. That it has children is asked here and below: `Code::child` says why.
 #[tactic(auto, using(codes::proofs::Places::child_place))]
 fn children(cell: Code) -> [u64; 4]
     requires { depth cell < 26 }

@@ -74,6 +74,7 @@ fn difference(met: Met) -> &'static str
     }
 }
 
+// That the code is a leaf ties it to the mesh, which neither type can hold.
 fn put_leaf(page: &mut ArrayString<PAGE>, mesh: &Mesh<'_>, leaf: Code)
     requires room { array_string_len page.old + 26 ≤ PAGE }
     requires leaf { Leaf mesh.now.leaves leaf }

@@ -18,7 +18,8 @@ use solids::Side;
 use soundness::Met;
 use soundness::meshes::Mesh;
 
-// The two smaller leaves across a side: the children, on the side back, of the cell across.
+// The two smaller leaves across a side: the children, on the side back, of the cell across. That it has children is asked:
+// `Code::child` says why.
 fn smaller(across: Code, side: Side) -> Met
     requires code { IsCode across }
     requires depth { depth across < 26 }

@@ -1,4 +1,4 @@
-//! The C interface, whole: each function stands in include/urdinhosa.h and promises what the call under it promises. The crate
+//! The C interface, whole: each function but `methods_agree` stands in include/urdinhosa.h and promises what the call under it promises. The crate
 //! urdinhosa_c exports them to C under these names. Numbers, slices and out-parameters are what C can hand over.
 
 #![tactic(auto)]
@@ -21,7 +21,7 @@ use codes::Code;
 use refusals::Refusal;
 use soundness::Met;
 
-// The code, or else the refusal's number.
+// For C, in one number: the code, or else the refusal's number.
 fn one_number(answer: Result<Code, Refusal>) -> u64
     ensures { result ≡ one_number answer }
 {
@@ -31,7 +31,7 @@ fn one_number(answer: Result<Code, Refusal>) -> u64
     }
 }
 
-// The number of a change's answer; the leaf in the way, or 0, is written.
+// For C, the number of a change's answer; the leaf in the way, or 0, is written.
 fn number_and_blocker(answer: Result<(), Refusal>, blocker: &mut u64) -> u64
     ensures { told result blocker.new ≡ unit_reply answer }
 {
@@ -47,7 +47,7 @@ fn number_and_blocker(answer: Result<(), Refusal>, blocker: &mut u64) -> u64
     }
 }
 
-// What lies across a side: the level difference, and the leaf's code or both.
+// For C, what lies across a side in parts: the level difference, and the leaf's code or both.
 fn in_parts(met: Met) -> (i64, u64, u64)
     ensures { told_side 0 result.0 result.1 result.2 ≡ crossing met }
 {
@@ -112,7 +112,7 @@ pub fn urdinhosa_walk(code: u64, direction: u64) -> u64
     one_number(steps::walk(code, direction))
 }
 
-/// Whether the two methods agree on a code and a direction: they do on all.
+/// Whether the two methods agree on a code and a direction: they do on all, whatever the numbers. C does not call it.
 pub fn methods_agree(code: u64, direction: u64) -> bool
     ensures { result ≡ true }
 {
