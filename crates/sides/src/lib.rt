@@ -105,7 +105,7 @@ pub fn coarsen_blocker(mesh: &Mesh<'_>, cell: Code) -> Option<u64>
 {
     // How deep the cell is follows from what is told with these.
     let (_codes, _number) = (mesh.codes(), cell.bits());
-    // Codes, where `leaves` has their numbers: with one function over both, by `map`, the goal stayed open.
+    // Codes, where `leaves` has their numbers. Made there from the digits by `map`, the goal stayed open.
     let children = [
         cell.child(Digit::Tip),
         cell.child(Digit::Left),
