@@ -1,6 +1,9 @@
--- What the first bytes of an order line must be; a line that is cut off from the bytes; how texts are put one after the other.
+-- What the first bytes must be for a solid line or an order line, and that they are enough; a line that is cut off from the bytes; how
+-- texts are put one after the other.
 --
---   solid_digit    == the first byte of a solid line
+--   solid_made     == bytes that begin with a digit and a newline begin with a solid line
+--   solid-..       == what a solid line begins with
+--   order_made     == bytes that begin with a letter, a space, 16 digits and a newline begin with an order line
 --   order-..       == what an order line begins with
 --   line_begins, line_left == of bytes that are cut after an order line, it is the first line, and the rest is left
 --   line_of        == of bytes that begin with an order line, the first 19 are one
@@ -10,21 +13,38 @@
 --   refusal_number == no refusal has the number 0
 use mathlib.Core.Bool.{Bool, true, false, cond}
 use mathlib.Core.List.{List, [], ◌∷◌, ◌++◌, append_assoc, append-nil}
+use mathlib.Core.Logic.{◌⊎◌}
 use mathlib.Core.Path.{◌≡◌, ap, ap₂, sym, ◌∙◌}
-use Prim.Native.Nat.{ℕ, zero, suc, ◌+◌, ◌<◌, ◌≤◌, min}
+use Prim.Native.Nat.{ℕ, zero, suc, ◌+◌, ◌^◌, ◌<◌, ◌≤◌, min}
 use native.Mathlib.Omega.{arith}
 use lib.Dec.{ltb}
-use lib.ListN.{length, take, drop, get_or, length-append, length-drop, length-take, drop_of_length-le}
-use lib.Seq.{take_at, drop_at, get_or_at}
+use lib.ListN.{length, take, drop, get_or, length-append, length-drop, length-take, take-append-drop, drop_of_length-le}
+use lib.Seq.{drop-cons, drop-drop, take_at, drop_at, get_or_at}
 use Rattle.refusals.specs.Answers.{number}
 use Rattle.refusals.specs.declared.Refusal.{Refusal}
 use Rattle.refusals.specs.declared.Refusal.TheVariants.{Solid, Face, Depth, Tail, Direction, Digit, Deep, Root, Point, Buffer, Mesh, NotLeaf, NotFour, Blocked, Room}
 use Rattle.text.specs.Text.{digits}
 use Rattle.text.proofs.Text.{length_digits}
-use Rattle.listing.specs.Listing.{newline, space, order_line, SolidFirst, OrderFirst, refused_word, width, answer}
+use Rattle.listing.specs.Listing.{newline, space, R, C, solid_line, order_line, SolidFirst, OrderFirst, refused_word, width, answer}
 
-pub solid_digit : (B : List ℕ) (d : ℕ) → SolidFirst B d → get_or B 0 0 ≡ 48 + d
-solid_digit B d s = ap (λ (t : List ℕ). get_or t 0 0) s.is
+pub solid_made : (B : List ℕ) (d : ℕ) → 2 ≤ length B → d < 10 → get_or B 0 0 ≡ 48 + d → get_or B 1 0 ≡ newline → SolidFirst B d
+solid_made B d long digit first second = record {
+  digit = digit;
+  is =
+      drop-cons B 0 0 (omega arith)
+      ∙ ap₂ (λ (x : ℕ) (t : List ℕ). x ∷ t) first
+      (drop-cons B 1 0 (omega arith) ∙ ap (λ (x : ℕ). x ∷ drop 2 B) second);
+}
+
+module _ (B : List ℕ) (d : ℕ) (s : SolidFirst B d) where
+  pub solid_long : 2 ≤ length B
+  solid_long = omega (arith, ap length s.is, length-append (solid_line d) (drop 2 B))
+
+  pub solid_digit : get_or B 0 0 ≡ 48 + d
+  solid_digit = ap (λ (t : List ℕ). get_or t 0 0) s.is
+
+  pub solid_end : get_or B 1 0 ≡ newline
+  solid_end = ap (λ (t : List ℕ). get_or t 1 0) s.is
 
 module _ (B : List ℕ) (l c : ℕ) where
   abbrev ending : List ℕ
@@ -33,6 +53,23 @@ module _ (B : List ℕ) (l c : ℕ) where
   -- the line is its letter, a space, its digits and a newline, one after the other
   in_parts : order_line l c ++ drop 19 B ≡ l ∷ space ∷ (digits 16 16 c ++ ending)
   in_parts = ap (λ (t : List ℕ). l ∷ space ∷ t) (append_assoc (digits 16 16 c) (newline ∷ []) (drop 19 B))
+
+  pub order_made : (l ≡ R) ⊎ (l ≡ C) → c < 2 ^ 64 → 19 ≤ length B → get_or B 0 0 ≡ l → get_or B 1 0 ≡ space → take 16 (drop 2 B) ≡ digits 16 16 c → get_or B 18 0 ≡ newline →
+      OrderFirst B l c
+  order_made kind code long letter gap number last =
+      let end : drop 16 (drop 2 B) ≡ ending =
+      drop-drop 16 2 B ∙ drop-cons B 18 0 (omega arith) ∙ ap (λ (x : ℕ). x ∷ drop 19 B) last in
+      let rest : drop 2 B ≡ digits 16 16 c ++ ending =
+      sym (take-append-drop 16 (drop 2 B)) ∙ ap₂ (λ (s t : List ℕ). s ++ t) number end in
+      record {
+        letter = kind;
+        code = code;
+        is =
+            drop-cons B 0 0 (omega arith)
+            ∙ ap₂ (λ (x : ℕ) (t : List ℕ). x ∷ t) letter
+            (drop-cons B 1 0 (omega arith) ∙ ap₂ (λ (x : ℕ) (t : List ℕ). x ∷ t) gap rest)
+            ∙ sym in_parts;
+      }
 
   module _ (o : OrderFirst B l c) where
     is_parts : B ≡ l ∷ space ∷ (digits 16 16 c ++ ending)

@@ -3,7 +3,7 @@
 
 #![tactic(auto)]
 
-ghost use Rattle.std.specs.Prelude.{List, [], ◌++◌, ◌≡◌, ℕ, ◌+◌, ◌*◌, ◌≤◌, length};
+ghost use Rattle.std.specs.Prelude.{List, [], ◌++◌, ◌≡◌, ℕ, ◌+◌, ◌*◌, ◌≤◌, length, take};
 ghost use Rattle.arrayvec.specs.ArrayString.{array_string_len};
 ghost use Rattle.refusals.specs.Refusals.{Single};
 ghost use Rattle.refusals.specs.Answers.{unit_reply};
@@ -172,7 +172,7 @@ fn solid_first(input: &[u8]) -> Option<u64>
 }
 
 /// Clears the page, and puts in what is printed for an input.
-pub fn list(page: &mut ArrayString<PAGE>, input: &[u8])
+pub fn put_listing(page: &mut ArrayString<PAGE>, input: &[u8])
     ensures prints { Prints input.now page.new.bytes }
     ensures upper_bound { array_string_len page.new ≤ PAGE }
 {
@@ -190,6 +190,18 @@ pub fn list(page: &mut ArrayString<PAGE>, input: &[u8])
         Ok(()) => obey_all(page, &mut slots, &input[2..]),
         Err(refusal) => put_answer(page, Err(refusal)),
     }
+}
+
+/// Writes what is printed for an input into the first bytes of a page, and answers how many they are.
+pub fn list(page: &mut [u8; PAGE], input: &[u8]) -> usize
+    ensures prints { Prints input.now (take result page.new) }
+    ensures upper_bound { result ≤ length page.new }
+{
+    let mut text = ArrayString::new();
+    put_listing(&mut text, input);
+    let bytes = text.as_str().as_bytes();
+    page[..bytes.len()].copy_from_slice(bytes);
+    bytes.len()
 }
 
 // A theorem. Its function has an empty body and stands for what it ensures, so that the gate asks for it by name.

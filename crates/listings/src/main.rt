@@ -6,10 +6,22 @@
 use arrayvec::ArrayString;
 use std::io;
 
+fn write(rt: &impl Print, text: &[u8]) -> io::Result<()> {
+    rt.write_all(text)?;
+    println!(rt; "--")
+}
+
 fn list(rt: &impl Print, input: &[u8]) -> io::Result<()> {
     let mut page = ArrayString::new();
-    listing::list(&mut page, input);
-    println!(rt; "{page}--")
+    listing::put_listing(&mut page, input);
+    write(rt, page.as_str().as_bytes())
+}
+
+// The same, by a page of bytes.
+fn list_in_bytes(rt: &impl Print, input: &[u8]) -> io::Result<()> {
+    let mut page = [0; listing::PAGE];
+    let end = listing::list(&mut page, input);
+    write(rt, &page[..end])
 }
 
 // Accepted: one leaf refined, each solid alone, a cell refined and coarsened again, a second level.
@@ -90,8 +102,8 @@ fn at_the_limit(rt: &impl Print) -> io::Result<()> {
     let mut bytes = [b'x'; 4097];
     bytes[0] = b'0';
     bytes[1] = b'\n';
-    list(rt, &bytes[..4096])?;
-    list(rt, &bytes)
+    list_in_bytes(rt, &bytes[..4096])?;
+    list_in_bytes(rt, &bytes)
 }
 
 fn main(rt: HostRuntime) -> io::Result<()> {

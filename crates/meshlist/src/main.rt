@@ -29,6 +29,7 @@ fn main(rt: HostRuntime) -> io::Result<()> {
     let mut input = [0u8; 4097];
     let n = read_full(&mut rt.stdin(), &mut input)?;
     let mut page = ArrayString::new();
-    listing::list(&mut page, &input[..n]);
-    print!(rt; "{page}")
+    listing::put_listing(&mut page, &input[..n]);
+    // In one write: `print!` writes a page in pieces.
+    rt.write_all(page.as_str().as_bytes())
 }

@@ -1,19 +1,23 @@
 -- Laws about digits that are put in and digits that are read.
 --
 --   put_last, room_for_last, digits_put == digits that are put in, the last after those before it
+--   digits_led                         == before the last 64 digits there are zeros
+--   shown_range, no_digit, is_low, is_high == which bytes show a digit
 --   read_more, read_other == digits that are read from the first
 --   digits_one            == the digits tell the number
-use mathlib.Core.List.{List, [], ◌∷◌, ◌++◌, append_assoc}
+use mathlib.Core.List.{List, [], ◌∷◌, ◌++◌, append_assoc, append-nil}
+use mathlib.Core.Logic.{◌⊎◌, inl, inr, ⊎_elim}
 use mathlib.Core.Path.{◌≡◌, refl, ap, ap₂, sym, ◌∙◌, subst}
 use Prim.Native.Nat.{ℕ, zero, suc, ◌+◌, ◌*◌, ◌-◌, ◌/◌, ◌%◌, ◌^◌, ◌<◌, ◌≤◌}
-use native.Mathlib.Nat.{pow-suc, pow-le-pow_right}
+use native.Mathlib.Nat.{pow-suc, pow-le-pow_right, zero-div, zero-mod, div-mul-le_self, mul-le-mul_left}
 use native.Mathlib.Decide.{dec_le}
 use native.Mathlib.Omega.{arith}
 use borrow.Author.Tests.{lt-ltb, le-ltb}
 use lib.Dec.{lit<}
 use lib.ListN.{length, take, get_or, length-append, get_or-append}
 use lib.Seq.{take-suc, get_or_at, take_at}
-use Rattle.std.proofs.Common.{encode_utf8}
+use Rattle.std.proofs.Common.{encode_utf8, replicate, min}
+use Rattle.std.proofs.lemmas.List.{replicate_more, replicate-append-replicate}
 use Rattle.std.proofs.lemmas.Str.{encode_ascii}
 use Rattle.text.specs.Text.{glyph, digits, Shows}
 
@@ -52,6 +56,68 @@ module _ (before mid : List ℕ) (b k n : ℕ) (some : 0 < k) (put : mid ≡ bef
   room_for_last {x} h r =
       omega (arith, r, digits_put before mid b (k - 1) (n / b) put, ap length (encode_ascii x h))
 
+-- so many digits 0
+abbrev pub zeros : ℕ → List ℕ
+zeros k = replicate k 48
+
+zeros_next : (k : ℕ) → zeros k ++ (48 ∷ []) ≡ zeros (suc k)
+zeros_next k =
+    let e : k + 1 ≡ suc k = omega arith in
+    replicate_more k 48 ∙ ap zeros e
+
+zeros_of_0 : (b k : ℕ) → digits b k 0 ≡ zeros k
+unfolding digits
+zeros_of_0 b zero = refl
+zeros_of_0 b (suc k) =
+    ap₂ (λ (m d : ℕ). digits b k m ++ (glyph d ∷ [])) (zero-div b) (zero-mod b)
+    ∙ ap (λ (s : List ℕ). s ++ (48 ∷ [])) (zeros_of_0 b k)
+    ∙ zeros_next k
+
+zeros_in_base_1 : (k n : ℕ) → digits 1 k n ≡ zeros k
+unfolding digits
+zeros_in_base_1 zero n = refl
+zeros_in_base_1 (suc k) n =
+    let e : n % 1 ≡ 0 = omega arith in
+    ap₂ (λ (s : List ℕ) (d : ℕ). s ++ (glyph d ∷ [])) (zeros_in_base_1 k (n / 1)) e ∙ zeros_next k
+
+-- before the digits of a number below 2 ^ k there are zeros
+leading : (b z k n : ℕ) → 2 ≤ b → n < 2 ^ k → digits b (z + k) n ≡ zeros z ++ digits b k n
+unfolding digits
+leading b z zero n two h =
+    let i : z + zero ≡ z = omega arith in
+    let m : n ≡ 0 = omega (arith, h) in
+    ap₂ (λ (i m : ℕ). digits b i m) i m ∙ zeros_of_0 b z ∙ sym (append-nil (zeros z))
+leading b z (suc k) n two h =
+    let i : z + suc k ≡ suc (z + k) = omega arith in
+    let most : n / b * 2 ≤ n / b * b = mul-le-mul_left (n / b) two in
+    let half : n / b < 2 ^ k = omega (arith, h, pow-suc 2 k, most, div-mul-le_self n b) in
+    ap (λ (i : ℕ). digits b i n) i
+    ∙ ap (λ (s : List ℕ). s ++ (glyph (n % b) ∷ [])) (leading b z k (n / b) two half)
+    ∙ append_assoc (zeros z) (digits b k (n / b)) (glyph (n % b) ∷ [])
+
+led : (b z n : ℕ) → 0 < b → n < 2 ^ 64 → digits b (z + 64) n ≡ zeros z ++ digits b 64 n
+led b z n some h = go (dec_le 2 b)
+  where
+    go : Dec (2 ≤ b) → digits b (z + 64) n ≡ zeros z ++ digits b 64 n
+    go (yes two) = leading b z 64 n two h
+    go (no l) =
+        let one : b ≡ 1 = omega (arith, some, l) in
+        subst (λ (c : ℕ). digits c (z + 64) n ≡ zeros z ++ digits c 64 n) (sym one)
+        (zeros_in_base_1 (z + 64) n ∙ sym (replicate-append-replicate z 64 48) ∙ ap (λ (s : List ℕ). zeros z ++ s) (sym (zeros_in_base_1 64 n)))
+
+pub digits_led : (b k last n : ℕ) → 0 < b → n < 2 ^ 64 → last ≡ min k 64 → digits b k n ≡ zeros (k - last) ++ digits b last n
+digits_led b k last n some h e = go (dec_le k 64)
+  where
+    go : Dec (k ≤ 64) → digits b k n ≡ zeros (k - last) ++ digits b last n
+    go (yes l) =
+        let a : k ≡ last = omega (arith, e, l) in
+        let z : k - last ≡ 0 = omega (arith, a) in
+        ap (λ (i : ℕ). digits b i n) a ∙ ap (λ (i : ℕ). zeros i ++ digits b last n) (sym z)
+    go (no l) =
+        let a : last ≡ 64 = omega (arith, e, l) in
+        let i : k ≡ k - last + 64 = omega (arith, a, l) in
+        ap (λ (i : ℕ). digits b i n) i ∙ led b (k - last) n some h ∙ ap (λ (i : ℕ). zeros (k - last) ++ digits b i n) (sym a)
+
 bound : (n i : ℕ) → n < 16 ^ i → i < 16 → n * 16 + 15 < 16 ^ (i + 1)
 bound n i h l =
     let e : i + 1 ≡ suc i = omega arith in
@@ -83,6 +149,27 @@ glyph_low d h = simp (lt-ltb d 10 h)
 
 glyph_high : (d : ℕ) → 10 ≤ d → glyph d ≡ 87 + d
 glyph_high d h = simp (le-ltb d 10 h)
+
+-- `0` to `9`, `a` to `f`
+pub shown_range : (x d : ℕ) → Shows x d → ((48 ≤ x) × (x ≤ 57)) ⊎ ((97 ≤ x) × (x ≤ 102))
+shown_range x d s = go (dec_le 10 d)
+  where
+    go : Dec (10 ≤ d) → ((48 ≤ x) × (x ≤ 57)) ⊎ ((97 ≤ x) × (x ≤ 102))
+    go (yes h) = inr (omega (arith, s.0, s.1, glyph_high d h), omega (arith, s.0, s.1, glyph_high d h))
+    go (no h) = inl (omega (arith, s.1, glyph_low d (omega arith)), omega (arith, h, s.1, glyph_low d (omega arith)))
+
+pub no_digit : (x : ℕ) → ((48 ≤ x) × (x ≤ 57) → ⊥) → ((97 ≤ x) × (x ≤ 102) → ⊥) → (d : ℕ) → Shows x d → ⊥
+no_digit x f g d s = ⊎_elim f g (shown_range x d s)
+
+pub is_low : (x : ℕ) → 48 ≤ x → x ≤ 57 → Shows x (x - 48)
+is_low x h k =
+    let l : x - 48 < 10 = omega arith in
+    (omega arith, omega (arith, h, glyph_low (x - 48) l))
+
+pub is_high : (x : ℕ) → 97 ≤ x → x ≤ 102 → Shows x (x - 87)
+is_high x h k =
+    let l : 10 ≤ x - 87 = omega arith in
+    (omega arith, omega (arith, h, glyph_high (x - 87) l))
 
 -- every one of the digits shows a digit
 pub record Shown (x : ℕ) : Type 0 where

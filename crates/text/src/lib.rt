@@ -17,8 +17,29 @@ fn glyph(digit: u64) -> char
     char::from_digit(digit as u32, 16).unwrap()
 }
 
+// Puts in the last digits of a number, no more than a number of 64 bits has.
+// By recursion, as the digits are defined: a loop from the first digit on would need powers of the base.
+fn put_last<const CAPACITY: usize>(
+    page: &mut ArrayString<CAPACITY>,
+    base: u64,
+    count: usize,
+    number: u64,
+)
+    requires least { 0 < base }
+    requires most { base ≤ 16 }
+    requires few { count ≤ 64 }
+    requires room { array_string_len page.old + count ≤ CAPACITY }
+    ensures bytes { page.new.bytes ≡ page.old.bytes ++ digits base count number }
+    ensures len { array_string_len page.new ≡ array_string_len page.old + count }
+{
+    if 0 < count {
+        put_last(page, base, count - 1, number / base);
+        page.push(glyph(number % base));
+    }
+}
+
 /// Puts the last digits of a number in, so many of them, in a base up to 16.
-// By recursion, as the digits are defined: a loop from the first digit on would need powers of the base, and a bound on `count`.
+// What stands before the last 64 are zeros: they are put in by a loop, so that no count takes more stack than these.
 pub fn put_digits<const CAPACITY: usize>(
     page: &mut ArrayString<CAPACITY>,
     base: u64,
@@ -31,10 +52,11 @@ pub fn put_digits<const CAPACITY: usize>(
     ensures bytes { page.new.bytes ≡ page.old.bytes ++ digits base count number }
     ensures len { array_string_len page.new ≡ array_string_len page.old + count }
 {
-    if 0 < count {
-        put_digits(page, base, count - 1, number / base);
-        page.push(glyph(number % base));
+    let last = count.min(64);
+    for _ in 0..count - last {
+        page.push('0');
     }
+    put_last(page, base, last, number);
 }
 
 // The digit below 16, in lower case, that a byte shows.

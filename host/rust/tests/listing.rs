@@ -13,6 +13,8 @@ use model::solids::{self, ICOSAHEDRON, SOLIDS};
 use model::tally::Tally;
 use std::collections::VecDeque;
 use std::io::{ErrorKind, Write};
+use std::os::fd::OwnedFd;
+use std::os::unix::net::UnixDatagram;
 use std::path::{Path, PathBuf};
 use std::process::{Command, Stdio};
 use std::time::Duration;
@@ -462,8 +464,8 @@ fn as_many_random_orders_as_there_is_room_for_are_answered_as_by_the_model() {
     }
 }
 
-#[test]
-fn the_longest_list_is_as_by_the_model() {
+/// The orders that leave the longest list.
+fn longest_list() -> String {
     // the largest leaves first, so that none is blocked
     let mut leaves: VecDeque<u64> = mesh::leaves_in(&mesh::fresh(&[0; 20], ICOSAHEDRON).expect("a mesh")).into();
     let mut input = format!("{}\n", ICOSAHEDRON);
@@ -472,9 +474,38 @@ fn the_longest_list_is_as_by_the_model() {
         input += &refine(leaf);
         leaves.extend(mesh::children_of(leaf));
     }
-    let printed = compare(input.as_bytes());
+    input
+}
+
+#[test]
+fn the_longest_list_is_as_by_the_model() {
+    let printed = compare(longest_list().as_bytes());
     assert!(refusals_in(&printed).is_empty());
     assert_eq!(list_in(&printed).len(), 20 + 3 * MOST_ORDERS);
+}
+
+/// A reader that closes early must not end the program with an error while a page fits into the pipe.
+#[test]
+fn the_page_is_written_in_one_write() {
+    // each write to a datagram socket is a datagram of its own
+    let (ours, theirs) = UnixDatagram::pair().expect("two sockets");
+    let input = longest_list();
+    let started = Command::new(program()).stdin(Stdio::piped()).stdout(OwnedFd::from(theirs)).spawn();
+    let mut running = started.unwrap_or_else(|error| panic!("{} does not start: {}", program().display(), error));
+    let mut stdin = running.stdin.take().expect("a piped input");
+    stdin.write_all(input.as_bytes()).expect("the program reads its input");
+    drop(stdin);
+    let mut page = vec![0; 1 << 18];
+    ours.set_read_timeout(Some(Duration::from_secs(20))).expect("a time to wait");
+    let length = ours.recv(&mut page).expect("what is written first");
+    assert_same(input.as_bytes(), &page[..length], &listing::list(input.as_bytes()));
+    ours.set_read_timeout(Some(Duration::from_millis(200))).expect("a time to wait");
+    let more = ours.recv(&mut page).map_err(|error| error.kind());
+    assert_eq!(more, Err(ErrorKind::WouldBlock), "something is written after it");
+    assert!(running.wait().expect("the program ends").success());
+    ours.set_nonblocking(true).expect("a socket that does not wait");
+    let more = ours.recv(&mut page).map_err(|error| error.kind());
+    assert_eq!(more, Err(ErrorKind::WouldBlock), "something is written at the end");
 }
 
 // ---------------------------------------------------------------------------------------------------------------------

@@ -11,7 +11,7 @@ use Rattle.soundness.proofs.Fresh.{all_faces_set}
 use Rattle.mesh.specs.Series.{start}
 use Rattle.listing.specs.Listing.{Goes, Prints, long, unread, no_mesh, mesh}
 use Rattle.listing.proofs.Lines.{refusal_number, answer_short}
-use Rattle.listing.proofs.list.Goals as goal
+use Rattle.listing.proofs.put_listing.Goals as goal
 
 -- what is put into a page that was cleared
 put : {p q t : List ℕ} → p ≡ [] → q ≡ p ++ t → q ≡ t
