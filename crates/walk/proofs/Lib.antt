@@ -1,2 +1,3 @@
 pub mod Turns
+pub mod Walks
 pub mod Loop

@@ -3,7 +3,7 @@
 --   Kept s p d low place rest left == in the walk over the path p of d digits those passed have become `low`, the next one
 --                                     counts `place`, and the walk goes on over the `left` digits of `rest`
 use Rattle.std.proofs.Common.{◌≡◌, ℕ, zero, suc, ◌+◌, ◌-◌, ◌*◌, ◌/◌, ◌%◌, ◌^◌, ◌<◌, ◌≤◌, true, false, refl, sym, ◌∙◌, pow-suc, arith}
-use native.Mathlib.Nat.{pow-le-pow_right, mul-le-mul_left}
+use native.Mathlib.Nat.{pow-le-pow_right, mul-le-mul_left, mul-le-mul_right}
 use Rattle.solids.specs.Triangles.{Side}
 use Rattle.geometry.specs.Corners.{Digit}
 use Rattle.geometry.specs.Paths.{digit_no, digit_of, number, digits}
@@ -23,6 +23,13 @@ pub record Kept (s : Side) (p d low place rest left : ℕ) : Type 0 where
 
 four_le : {m n : ℕ} → m ≤ n → 4 ^ m ≤ 4 ^ n
 four_le h = pow-le-pow_right (omega arith) h
+
+-- the place value and the rest fit
+pub room : {s : Side} {p d low place rest left : ℕ} → Kept s p d low place rest left → (place ≤ 4 ^ 26) × (rest < 4 ^ 26)
+room {place = place} {left = left} k =
+    let z : 0 ≤ left = omega arith in
+    let one : 1 ≤ place = omega arith in
+    (omega (arith, mul-le-mul_left place (four_le z)), omega (arith, mul-le-mul_right (4 ^ left) one))
 
 pub start : (s : Side) (p d : ℕ) → d ≤ 26 → p < 4 ^ d → Kept s p d 0 1 p (d - 0)
 start s p d h l =

@@ -6,7 +6,8 @@
 ghost use Rattle.std.specs.Prelude.{◌≡◌, ◌^◌, ◌≤◌, ◌<◌};
 ghost use Rattle.walk.specs.Walks.{turn_of, Walks};
 
-use geometry::{Digit, Walked};
+use geometry::Digit;
+pub use geometry::Walked;
 use solids::Side;
 
 /// What the walk does at a digit: it stops, or it climbs; in both cases with the digit's replacement.
@@ -36,9 +37,9 @@ fn turn_at(side: Side, digit: Digit) -> Turn
         },
         Side::Vertical => match digit {
             Digit::Tip => Turn::Stop(Digit::Centre),
-            Digit::Left => Turn::Climb(Digit::Left),
             Digit::Centre => Turn::Stop(Digit::Tip),
-            Digit::Right => Turn::Climb(Digit::Right),
+            // One arm: as two they are compiled to two ways, and over a seam no predictor learns which comes next.
+            Digit::Left | Digit::Right => Turn::Climb(digit),
         },
     }
 }
