@@ -1,20 +1,24 @@
 -- The faces of a set, one after another: counted, and written into slots.
 use mathlib.Core.Bool.{Bool, true, false, cond}
-use mathlib.Core.List.{List, [], ◌∷◌, ◌++◌, append_assoc}
+use mathlib.Core.List.{List, [], ◌∷◌, ◌++◌, append_assoc, append-nil}
 use mathlib.Core.Path.{◌≡◌, refl, sym, ◌∙◌, ap}
 use Prim.Native.Nat.{ℕ, zero, suc, ◌+◌, ◌-◌, ◌*◌, ◌/◌, ◌%◌, ◌^◌, ◌<◌, ◌≤◌}
+use native.Mathlib.Nat.{mod-lt}
 use native.Mathlib.Numerals.{add-one}
 use native.Mathlib.Omega.{arith}
 use lib.Dec.{eqb}
 use Rattle.std.proofs.Common.{filter}
 use Rattle.std.specs.List.{range_with_len}
-use lib.ListN.{length, take, set, length-append, length-set}
+use lib.ListN.{length, take, set, replicate, length-append, length-set}
 use lib.Seq.{length-take-le, take-suc-set}
 use borrow.Author.Tests.{eq-eqb, ne_eqb, eqb-true, eqb-false}
+use Rattle.solids.specs.Solids.{solid_of, faces}
 use Rattle.refusals.specs.Answers.{Tells}
 use Rattle.codes.specs.Codes.{joined}
 use Rattle.codes.specs.Places.{code_at, base}
-use Rattle.soundness.specs.Changes.{faces_from}
+use Rattle.soundness.specs.Leaves.{pad}
+use Rattle.soundness.specs.Changes.{faces_from, fresh_leaves}
+use Rattle.slots.specs.Slots.{cleared_from}
 
 abbrev face_code : ℕ → ℕ → ℕ
 face_code S f = code_at (base S + f * 2 ^ 52) 0
@@ -57,6 +61,21 @@ module _ (S Q last : ℕ) where
 
   left_more : (f : ℕ) → f < last → left f ≡ cond (eqb (bit Q f) 1) (face_code S f ∷ []) [] ++ left (f + 1)
   left_more f h = let e : last - f ≡ suc (last - (f + 1)) = omega arith in ap (faces_from S Q f) e
+
+  left_none : (f : ℕ) → last ≤ f → left f ≡ []
+  left_none f h = let e : last - f ≡ 0 = omega arith in ap (faces_from S Q f) e
+
+  pub left_all : last ≡ faces (solid_of S) → left 0 ≡ fresh_leaves S Q
+  left_all h = let e : last - 0 ≡ faces (solid_of S) = omega arith in ap (faces_from S Q 0) e
+
+  -- counted one by one
+
+  pub count_more : (n f N : ℕ) → f < last → n + length (left f) ≡ N → n + bit Q f + length (left (f + 1)) ≡ N
+  count_more n f N h e =
+      omega (arith, ap length (left_more f h), length-face (bit Q f) (face_code S f) (left (f + 1)) (mod-lt (Q / 2 ^ f) (omega arith)))
+
+  pub count_done : (n f N : ℕ) → last ≤ f → n + length (left f) ≡ N → n ≡ N
+  count_done n f N h e = omega (arith, ap length (left_none f h))
 
   -- written
 
@@ -102,3 +121,9 @@ module _ (S Q last : ℕ) where
               ∙ ap (λ (t : List ℕ). take n xs ++ t) (sym (left_more f h))
               ∙ e,
         )
+
+    pub write_done : last ≤ f → cleared_from xs n ≡ pad (length xs) F
+    write_done h =
+        let g : take n xs ≡ F = sym (append-nil (take n xs)) ∙ ap (λ (t : List ℕ). take n xs ++ t) (sym (left_none f h)) ∙ e in
+        let m : n ≡ length F = sym (length-take-le n xs low) ∙ ap length g in
+        ap (λ (t : List ℕ). t ++ replicate (length xs - n) 0) g ∙ ap (λ (k : ℕ). F ++ replicate (length xs - k) 0) m

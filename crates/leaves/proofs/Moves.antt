@@ -14,12 +14,15 @@ use Rattle.slots.specs.Slots.{split_slot, join_at}
 use Rattle.slots.proofs.Slots.{split_pad, join_pad}
 use Rattle.leaves.specs.Leaves.{Filled}
 
+pub filled_le : (xs : List ℕ) (n : ℕ) → Filled xs n → n ≤ length xs
+filled_le xs n F = omega (arith, F.count, leaves_le xs)
+
 module _ (xs : List ℕ) (n i : ℕ) (F : Filled xs n) where
   -- the slots are the leaves and zeros
   abbrev zeros : List ℕ
   zeros = replicate (length xs - length (leaves xs)) 0
 
-  slot_leaf : i < n → get_or xs i 0 ≡ get_or (leaves xs) i 0
+  pub slot_leaf : i < n → get_or xs i 0 ≡ get_or (leaves xs) i 0
   slot_leaf l = ap (λ (t : List ℕ). get_or t i 0) F.form ∙ get_or-append (leaves xs) zeros 0 i (omega (arith, F.count))
 
   -- what stands before the slot

@@ -70,6 +70,15 @@ are_four L i c h four =
     ∙ ap (λ (x : ℕ). child_code c 0 ∷ child_code c 1 ∷ x ∷ get_or L (suc (suc (suc i))) 0 ∷ []) (at (suc (suc i)) 2 (omega arith) (omega arith))
     ∙ ap (λ (x : ℕ). child_code c 0 ∷ child_code c 1 ∷ child_code c 2 ∷ x ∷ []) (at (suc (suc (suc i))) 3 (omega arith) (omega arith))
 
+-- the four of which each one is compared
+pub four_all : (xs : List ℕ) (i c : ℕ) → get_or xs i 0 ≡ child_code c 0 → get_or xs (i + 1) 0 ≡ child_code c 1 → get_or xs (i + 2) 0 ≡ child_code c 2 →
+    get_or xs (i + 3) 0 ≡ child_code c 3 → (q : ℕ) → q < 4 → get_or xs (i + q) 0 ≡ child_code c q
+four_all xs i c a b d e zero l = let z : i + 0 ≡ i = omega arith in ap (λ (k : ℕ). get_or xs k 0) z ∙ a
+four_all xs i c a b d e (suc zero) l = b
+four_all xs i c a b d e (suc (suc zero)) l = d
+four_all xs i c a b d e (suc (suc (suc zero))) l = e
+four_all xs i c a b d e (suc (suc (suc (suc n)))) l = absurd (omega arith)
+
 -- the first code after a cell, as the code makes it
 pub past_code : (c d : ℕ) → IsCode c → d ≡ depth c → (c - d + 1 * 2 ^ (57 - 2 * d) % 2 ^ 64 ≡ 32 * past c) × (32 * past c < 2 ^ 64)
 past_code c d w e =
@@ -80,7 +89,7 @@ past_code c d w e =
 
 -- the leaves between two searches
 pub run_is : (L : List ℕ) (c i j : ℕ) → Covered L → IsCode c → Below L c i → Below L (32 * past c) j →
-    (i ≤ j) × (take (j - i) (drop i L) ≡ under c L)
+    (i ≤ j) × (j ≤ length L) × (take (j - i) (drop i L) ≡ under c L)
 run_is L c i j C w A B =
     let h : i ≤ j = ⊎_elim (λ k. k) (λ k. absurd (omega (arith, A.less j k, B.rest j (omega arith) (omega (arith, A.upto)), size_pos (depth c)))) (le_or_lt i j) in
-    (h, sym (run_part C.solid (solid c) L C.covers.cells c i j (code_on_solid c w) A B))
+    (h, B.upto, sym (run_part C.solid (solid c) L C.covers.cells c i j (code_on_solid c w) A B))

@@ -6,7 +6,7 @@
 --   FourAt L cell r == r tells where the children of the cell stand side by side, or that not all of them are leaves
 --   RunAt L cell r  == the leaves in the range r are those that are the cell or lie inside it; before stand those below the cell
 use Rattle.std.specs.Prelude.{List, ◌≡◌, ℕ, ◌+◌, ◌<◌, ◌≤◌, length, slice_index, slice_range, Option, None, Some}
-use Rattle.std.specs.declared.ops.Range.{Range}
+use Rattle.leaves.specs.declared.Run.{Run}
 use Rattle.codes.specs.Places.{child_code}
 use Rattle.soundness.specs.Leaves.{Leaf, Ascends, leaves, pad}
 use Rattle.soundness.specs.Soundness.{Covers}
@@ -34,7 +34,7 @@ FourAt L cell (Some i) = (i + 4 ≤ length L) × ((q : ℕ) → q < 4 → slice_
 FourAt L cell None = ((q : ℕ) → q < 4 → Leaf L (child_code cell q)) → ⊥
 
 -- "the leaves equal to or inside that cell"
-pub record RunAt (L : List ℕ) (cell : ℕ) (r : Range ℕ) : Type 0 where
+pub record RunAt (L : List ℕ) (cell : ℕ) (r : Run) : Type 0 where
   pub order : r.start ≤ r.end
   pub upto : r.end ≤ length L
   pub first : Below L cell r.start

@@ -15,7 +15,14 @@ use codes::{Code, Fields};
 use geometry::Digit;
 use solids::Solid;
 use soundness::regions::Faces;
-use std::ops::Range;
+
+/// A run of leaves: the place of the first, and the place after the last.
+// A type of its own, since `Range` is not `Copy`.
+#[derive(Clone, Copy, Debug, PartialEq, Eq)]
+pub struct Run {
+    pub start: usize,
+    pub end: usize,
+}
 
 /// Where a code stands among the leaves: any that ascend.
 pub fn leaf_at(leaves: &[u64], code: u64) -> Option<usize>
@@ -65,13 +72,16 @@ pub fn four_at(leaves: &[u64], cell: Code) -> Option<usize>
 
 /// The leaves that are a cell of any solid or lie inside it. They stand side by side: a code in the cell is at least the cell's
 /// own, and less than the first code after the cell.
-pub fn run_of(leaves: &[u64], cell: Code) -> Range<usize>
+pub fn run_of(leaves: &[u64], cell: Code) -> Run
     requires { Covered leaves.now }
     ensures { RunAt leaves.now cell result }
 {
     let depth = cell.depth();
     let past = cell.bits() - depth + (1 << (57 - 2 * depth));
-    slots::below(leaves, cell.bits())..slots::below(leaves, past)
+    Run {
+        start: slots::below(leaves, cell.bits()),
+        end: slots::below(leaves, past),
+    }
 }
 
 /// How many faces of the solid are in the set.

@@ -9,7 +9,7 @@
 --   Part                       == number, start and count of a part of the slice
 --   bounds_reply r             == those of a call that gives a part or refuses
 use Rattle.std.specs.Prelude.{List, ℕ, ◌-◌, ℤ, pos, negsuc, Result, Ok, Err}
-use Rattle.std.specs.declared.ops.Range.{Range}
+use Rattle.leaves.specs.declared.Run.{Run}
 use Rattle.refusals.specs.Refusals.{BLOCKED}
 use Rattle.refusals.specs.Answers.{Reply, told, number}
 use Rattle.refusals.specs.declared.Refusal.{Refusal}
@@ -62,6 +62,6 @@ part a m = record { number = 0; start = a; count = m }
 abbrev pub no_bounds : ℕ → Part
 no_bounds k = record { number = k; start = 0; count = 0 }
 
-abbrev pub bounds_reply : Result (Range ℕ) Refusal → Part
+abbrev pub bounds_reply : Result Run Refusal → Part
 bounds_reply (Ok r) = part r.start (r.end - r.start)
 bounds_reply (Err e) = no_bounds (number e)

@@ -22,7 +22,6 @@ use refusals::Refusal;
 use solids::{Side, Solid};
 use soundness::Met;
 use soundness::regions::Faces;
-use std::ops::Range;
 
 /// Whether the slice holds a sound mesh.
 pub fn sound(slots: &[u64]) -> bool
@@ -98,14 +97,14 @@ pub fn across(slots: &[u64], leaf: u64, direction: u64) -> Result<Met, Refusal>
 }
 
 /// Where in the slice the run of leaves under a cell stands; the empty run stands at 0.
-pub fn bounds(slots: &[u64], cell: u64) -> Result<Range<usize>, Refusal>
+pub fn bounds(slots: &[u64], cell: u64) -> Result<leaves::Run, Refusal>
     ensures { BoundsOf (whole_of slots.now) slots.now cell (bounds_reply result) }
 {
     let mesh = examine(slots)?;
     let cell = Code::try_from(cell)?;
     let run = leaves::run_of(mesh.codes(), cell);
-    if run.is_empty() {
-        return Ok(0..0);
+    if run.start == run.end {
+        return Ok(leaves::Run { start: 0, end: 0 });
     }
     Ok(run)
 }
@@ -115,7 +114,7 @@ pub fn run(slots: &[u64], cell: u64) -> &[u64]
     ensures { RunOf (whole_of slots.now) slots.now cell result.now }
 {
     match bounds(slots, cell) {
-        Ok(run) => &slots[run],
+        Ok(run) => &slots[run.start..run.end],
         Err(_) => &slots[..0],
     }
 }
@@ -124,7 +123,8 @@ pub fn run(slots: &[u64], cell: u64) -> &[u64]
 pub fn count(slots: &[u64], cell: u64) -> Result<usize, Refusal>
     ensures { CountOf (whole_of slots.now) slots.now cell (reply result) }
 {
-    Ok(bounds(slots, cell)?.len())
+    let run = bounds(slots, cell)?;
+    Ok(run.end - run.start)
 }
 
 // Theorems. Each function has an empty body and stands for what it ensures, so that the gate asks for it by name.

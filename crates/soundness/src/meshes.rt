@@ -8,7 +8,7 @@ use std::marker::Model;
 
 /// The leaves of a sound mesh, in order, and the faces that they cover.
 // Nothing prints or compares it, and a struct with a lifetime and a model is never `Copy`.
-#[derive(Drop)]
+#[derive(Clone, Drop)]
 pub struct Mesh<'a> {
     codes: &'a [u64],
     faces: Faces,

@@ -1,6 +1,7 @@
 -- Where the linear pass stands, and how it goes on.
 --
 --   Pass S Q xs w i == the first i slots follow each other from the first place of the solid, and the next is to begin at w
+--   pass_start      == before the first slot
 --   pass_cell       == a slot that begins at w is a code of the solid
 --   pass_more       == one more slot
 --   pass_zero       == no slot begins at w, so no prefix is a tiling
@@ -33,6 +34,9 @@ pub skipped_same : {Q e e' g g' r : ℕ} → e ≡ e' → g ≡ g' → Skipped Q
 skipped_same {Q} {e} {e'} {g} {g'} {r} p q k = subst (λ (n : ℕ). Skipped Q n g' r) p (subst (λ (n : ℕ). Skipped Q e n r) q k)
 
 module _ (S Q : ℕ) (known : Known S) (xs : List ℕ) where
+  pub pass_start : (w : ℕ) → Skipped Q (end S) (base S) w → Pass S Q xs w 0
+  pass_start w k = record { index = omega arith; tiles = k.gap; upto = k.upto; there = k.there }
+
   pass_in : (w i : ℕ) → Pass S Q xs w i → w < end S → InFaces Q w
   pass_in w i p h = ⊎_elim (λ e. absurd (omega arith)) (λ q. q) p.there
 

@@ -16,12 +16,36 @@ use Rattle.codes.specs.Codes.{depth, size}
 use Rattle.codes.specs.Places.{place, base, end}
 use Rattle.codes.proofs.Sizes.{size_pos, size_two}
 use Rattle.soundness.specs.Regions.{InFaces}
+use Rattle.soundness.specs.Inner.{Gap}
 use Rattle.soundness.proofs.Cells.{le_or_lt}
 use Rattle.tiling.specs.Tiling.{Skipped, Begins}
+
+-- the face of p is not in the set: nothing of the set up to the next face
+pub face_gap : (Q p : ℕ) → (InFaces Q p → ⊥) → Gap Q p ((p / 2 ^ 52 + 1) * 2 ^ 52)
+unfolding InFaces
+face_gap Q p n =
+    record {
+      to = omega arith;
+      none = λ g l h i.
+          let e : g / 2 ^ 52 ≡ p / 2 ^ 52 = omega arith in
+          n (subst (λ (f : ℕ). Q / 2 ^ (f % 32) % 2 ≡ 1) e i);
+    }
 
 -- the face of the number k, whose last five bits are the face's own, is in the set
 abbrev pub HasFace : ℕ → ℕ → Type 0
 HasFace Q k = Q / 2 ^ (k % 32) % 2 ≡ 1
+
+-- by its first place
+same_face : (k : ℕ) → k * 2 ^ 52 % 2 ^ 64 / 2 ^ 52 % 32 ≡ k % 32
+same_face k = omega arith
+
+pub has_face : (Q k : ℕ) → InFaces Q (k * 2 ^ 52 % 2 ^ 64) → HasFace Q k
+unfolding InFaces
+has_face Q k i = subst (λ (f : ℕ). Q / 2 ^ f % 2 ≡ 1) (same_face k) i
+
+pub face_has : (Q k : ℕ) → HasFace Q k → InFaces Q (k * 2 ^ 52 % 2 ^ 64)
+unfolding InFaces
+face_has Q k i = subst (λ (f : ℕ). Q / 2 ^ f % 2 ≡ 1) (sym (same_face k)) i
 
 -- from g on up to the end, by the faces: their numbers have the solid's above them
 module _ (Q e g : ℕ) (upto : g ≤ e) (whole : e % 2 ^ 52 ≡ 0) where
@@ -78,3 +102,7 @@ end_facts S e h k =
     let f : ℕ = faces (solid_of S) in
     let m : e ≡ (S * 32 + f) * 2 ^ 52 = omega arith in
     (omega arith, omega (arith, faces_few (solid_of S), h.1), ap (λ (n : ℕ). n % 2 ^ 52) m ∙ mul-mod_left (S * 32 + f) (2 ^ 52))
+
+-- the ends of a solid, from its number and the number of its faces
+pub ends : (S f : ℕ) → Known S → f ≡ faces (solid_of S) → (S * 2 ^ 57 % 2 ^ 64 ≡ base S) × (S * 2 ^ 57 % 2 ^ 64 + f * 2 ^ 52 % 2 ^ 64 ≡ end S)
+ends S f h e = let b : S * 2 ^ 57 % 2 ^ 64 ≡ base S = omega (arith, h.1) in (b, omega (arith, faces_few (solid_of S)))

@@ -32,7 +32,7 @@ fn next_place(faces: Faces, last: u64, place: u64) -> u64
     if faces.has_place(place) {
         return place;
     }
-    match (place >> 52..last >> 52).find(|&face| faces.contains(face % 32)) {
+    match (place >> 52..last >> 52).find(|&face| faces.has_place(face << 52)) {
         Some(face) => place.max(face << 52),
         None => last,
     }
@@ -55,7 +55,7 @@ fn begins(code: u64, want: u64) -> bool
 /// Leaves that tile the faces of a set, of some solid, and that set.
 // A type of its own beside `Mesh`, with another invariant: one type over both would need a parameter that only proofs read. Nothing
 // prints or compares it, and a struct with a lifetime and a model is never `Copy`.
-#[derive(Drop)]
+#[derive(Clone, Drop)]
 pub struct Tiles<'a> {
     codes: &'a [u64],
     faces: Faces,

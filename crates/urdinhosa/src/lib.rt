@@ -174,7 +174,7 @@ pub fn urdinhosa_run(slots: &[u64], cell: u64, start: &mut usize, count: &mut us
     match mesh::bounds(slots, cell) {
         Ok(run) => {
             *start = run.start;
-            *count = run.len();
+            *count = run.end - run.start;
             0
         }
         Err(refusal) => {

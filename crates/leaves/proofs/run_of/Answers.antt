@@ -14,4 +14,4 @@ returns c =
     let a = rw c.bits-2.ensures.bits at c.below.ensures in
     let b = rw (c.bits.ensures.bits, p.0) at c.below-2.ensures in
     let r = run_is _ _ _ _ c.requires c.bits.ensures.code a b in
-    record { order = r.0; upto = b.upto; first = a; part = r.1 }
+    record { order = r.0; upto = r.1; first = a; part = r.2 }

@@ -5,13 +5,14 @@ use Rattle.examine.specs.Examined.{whole_of}
 use Rattle.mesh.specs.Answers.{no_bounds}
 use Rattle.mesh.specs.Calls.{bounds_end}
 use Rattle.mesh.proofs.Bounded.{some_run}
+use Rattle.mesh.proofs.Held.{held_covered}
 use Rattle.mesh.proofs.Passed.{goes_on}
 use Rattle.mesh.proofs.bounds.Goals as goal
 
 pub run_of-run-requires : goal.run_of-run-requires
 run_of-run-requires c =
     let M = c.codes.ensures.mesh in
-    let covered : Covered c.codes.result.now = rw c.codes.ensures.codes (record { solid = M.solid; faces = _; covers = M.mesh.covers }) in
+    let covered : Covered c.codes.result.now = rw c.codes.ensures.codes (held_covered _ _ M) in
     covered
 
 pub returns : goal.returns

@@ -11,6 +11,7 @@ use Rattle.leaves.specs.Leaves.{Covered}
 use Rattle.examine.specs.Examined.{whole_of}
 use Rattle.mesh.specs.Answers.{Outcome, outcome}
 use Rattle.mesh.specs.Calls.{kept, coarsen_leaves_end, coarsen_end, Coarsened}
+use Rattle.mesh.proofs.Held.{held_covered}
 use Rattle.mesh.proofs.Passed.{goes_on, found_four}
 use Rattle.mesh.proofs.coarsen.Goals as goal
 use Rattle.mesh.proofs.coarsen.Goals.{In_ok-at}
@@ -23,7 +24,7 @@ four c =
 pub four_at-requires : goal.four_at-requires
 four_at-requires c =
     let M = c.codes.ensures.mesh in
-    let covered : Covered c.codes.result.now = rw c.codes.ensures.codes (record { solid = M.solid; faces = _; covers = M.mesh.covers }) in
+    let covered : Covered c.codes.result.now = rw c.codes.ensures.codes (held_covered _ _ M) in
     record { covered = covered; depth = omega (arith, c.depth.ensures.depth) }
 
 -- what is said once the four are found

@@ -4,7 +4,7 @@ use Rattle.std.specs.Option.{MatchOption}
 use Rattle.std.proofs.lemmas.Option.{MatchOption-at_none, MatchOption-at_some}
 use Rattle.std.proofs.lemmas.Iterator.{first_from_Range}
 use Rattle.tiling.specs.Tiling.{Skipped}
-use Rattle.tiling.proofs.Places.{HasFace, skip_none, skip_some}
+use Rattle.tiling.proofs.Places.{HasFace, has_face, face_has, skip_none, skip_some}
 use Rattle.tiling.proofs.next_place.Goals as goal
 use Rattle.tiling.proofs.next_place.Goals.{After-find}
 
@@ -14,7 +14,7 @@ first : (c : After-find) → MatchOption c.find.result
     (λ f. (c.args.place / 2 ^ 52 ≤ f) × (f < c.args.last / 2 ^ 52) × HasFace c.args.faces f ×
     ((k : ℕ) → c.args.place / 2 ^ 52 ≤ k → k < f → HasFace c.args.faces k → ⊥))
 first c = first_from_Range _ _ _ c.find.result (HasFace c.args.faces) (λ (k : ℕ). HasFace c.args.faces k → ⊥) c.find.ensures.ran
-    (λ x q h. search rules) (λ x q h. search rules)
+    (λ x q h. search (rules, has_face)) (λ x q h. search (rules, face_has))
 
 pub returns-in-Some : goal.returns-in-Some
 returns-in-Some c =
