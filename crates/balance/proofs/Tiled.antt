@@ -1,9 +1,10 @@
 -- Leaves that tile cover their faces; each is a code of their solid, so is its parent, and so is the cell that a step leads to.
 use mathlib.Core.List.{List}
 use mathlib.Core.Path.{◌≡◌, sym, subst}
-use Prim.Native.Nat.{ℕ, ◌<◌}
+use Prim.Native.Nat.{ℕ, ◌<◌, ◌≤◌}
 use native.Mathlib.Omega.{arith}
-use lib.ListN.{length, get_or}
+use lib.ListN.{length, get_or, take}
+use lib.Seq.{get_or-take, length-take-le}
 use Rattle.solids.specs.Triangles.{Side, left, right, vertical, side_no}
 use Rattle.codes.specs.Codes.{depth, IsCode}
 use Rattle.codes.specs.Places.{CodeOn, parent_code}
@@ -42,3 +43,12 @@ pub leaf_tiled : {Q : ℕ} {L M : List ℕ} {i : ℕ} → M ≡ L → i < length
 leaf_tiled {Q} {L} {M} {i} e h k =
     let m : Leaf L (get_or M i 0) = subst (λ (l : List ℕ). Leaf l (get_or M i 0)) e (leaf_at M i h) in
     record { solid = k.solid; tiling = k.tiling; code = (tiling_covers k.solid Q L k.tiling).cells (get_or M i 0) m }
+
+-- the leaves are the first slots
+module _ (Q : ℕ) (xs : List ℕ) (n : ℕ) (h : n ≤ length xs) (i : ℕ) (l : i < n) where
+  pub slot_leaf : Leaf (take n xs) (get_or xs i 0)
+  slot_leaf = subst (λ (x : ℕ). Leaf (take n xs) x) (get_or-take n xs i 0 l) (leaf_at (take n xs) i (omega (arith, length-take-le n xs h)))
+
+  pub slot_tiled : Tiled Q (take n xs) → TiledFor Q (take n xs) (get_or xs i 0)
+  slot_tiled k =
+      record { solid = k.solid; tiling = k.tiling; code = (tiling_covers k.solid Q (take n xs) k.tiling).cells (get_or xs i 0) slot_leaf }

@@ -4,7 +4,7 @@
 
 #![tactic(auto)]
 
-ghost use Rattle.std.specs.Prelude.{◌≤◌, length};
+ghost use Rattle.std.specs.Prelude.{◌*◌, ◌≤◌, length};
 
 use codes::Code;
 use corners::Corners;
@@ -67,6 +67,7 @@ fn leads_to(answer: Result<Code, Refusal>, there: u64) -> bool {
 // Over how many sides of all cells that holds.
 fn agreeing(cells: &[Cell]) -> usize
     requires { length cells.now ≤ 320 }
+    ensures { result ≤ 3 * length cells.now }
 {
     let mut count = 0;
     for &cell in cells {

@@ -1,14 +1,17 @@
 -- From the linear pass, the zeros and the level test to soundness, and back: a slice that fails one of them is not sound.
 use mathlib.Core.List.{List}
-use mathlib.Core.Path.{◌≡◌, sym, subst}
-use Prim.Native.Nat.{ℕ, ◌<◌, ◌≤◌}
+use mathlib.Core.Path.{◌≡◌, ap, sym, ◌∙◌, subst}
+use Prim.Native.Nat.{ℕ, ◌-◌, ◌*◌, ◌%◌, ◌^◌, ◌<◌, ◌≤◌}
+use native.Mathlib.Nat.{mod-eq_of_lt}
 use native.Mathlib.Omega.{arith}
 use lib.ListN.{length, get_or, take}
-use Rattle.solids.specs.Solids.{Known}
+use lib.Pow.{pow_mono, pow_pos}
+use Rattle.solids.specs.Solids.{Known, solid_of, faces}
+use Rattle.solids.proofs.Numbers.{faces_few}
 use Rattle.codes.specs.Codes.{solid}
 use Rattle.steps.specs.Stepped.{step_code}
 use Rattle.steps.proofs.Laws.{step_laws}
-use Rattle.soundness.specs.Regions.{FaceSet}
+use Rattle.soundness.specs.Regions.{all_faces, FaceSet}
 use Rattle.soundness.specs.Leaves.{leaves}
 use Rattle.soundness.specs.Soundness.{Sound, SoundIn}
 use Rattle.soundness.specs.Inner.{Rows, Passes}
@@ -47,3 +50,18 @@ pub sound_first : (Q : ℕ) (xs : List ℕ) → SoundIn Q xs → (0 < length xs)
 sound_first Q xs s =
     let m = s.mesh in
     (omega (arith, (sound_passes (solid (get_or xs 0 0)) Q step_code (step_laws (solid (get_or xs 0 0))) xs s).upto, m.some), (m.covers.cells (get_or xs 0 0) (head_leaf xs m.some)).known)
+
+-- a bit for each face
+module _ (S f : ℕ) (e : f ≡ faces (solid_of S)) where
+  pub few : f < 64
+  few = omega (arith, faces_few (solid_of S))
+
+  bits : (1 * 2 ^ f) % 2 ^ 64 ≡ 2 ^ f
+  bits = let l : f ≤ 63 = omega (arith, few) in ap (λ (k : ℕ). k % 2 ^ 64) (omega arith) ∙ mod-eq_of_lt (omega (arith, pow_mono l))
+
+  pub mask_some : 1 ≤ (1 * 2 ^ f) % 2 ^ 64
+  mask_some = rw bits (pow_pos f)
+
+  pub mask_whole : (1 * 2 ^ f) % 2 ^ 64 - 1 ≡ all_faces S
+  unfolding all_faces
+  mask_whole = ap (λ (k : ℕ). k - 1) (bits ∙ ap (λ (k : ℕ). 2 ^ k) e)

@@ -15,7 +15,7 @@ use Rattle.solids.proofs.Seams.{vertex<}
 use Rattle.geometry.specs.Weights.{◌⊕◌, total}
 use Rattle.geometry.specs.Corners.{Digit, d00, d01, d10, d11, Triangle, child_corners, corners}
 use Rattle.geometry.specs.Cells.{Cell, WellFormed, depth_of, face_corners, corner}
-use Rattle.geometry.proofs.Weights.{get_or-⊕, length-⊕, total-⊕, total_unit}
+use Rattle.geometry.proofs.Weights.{get_or-⊕, length-⊕, total-⊕, length-unit, total_unit}
 
 abbrev pub one : Digit → Corner → Corner
 one d00 tip = tip
@@ -94,6 +94,10 @@ twelve_vertices icosahedron = omega arith
 
 pub vertex<12 : (so : Solid) (f : ℕ) → f < faces so → (p : Corner) → vertex so f p < 12
 vertex<12 so f h p = omega (arith, vertex< so f h p, twelve_vertices so)
+
+-- a corner has twelve weights
+pub twelve : (c : Cell) (p : Corner) → length (corner c p) ≡ 12
+twelve c p = corners_length (face_corners c.solid c.face) (λ q. length-unit 12 (vertex c.solid c.face q)) c.path p
 
 -- "Weights at depth d sum to 2^d."
 pub weights_sum : (c : Cell) → WellFormed c → (p : Corner) → total (corner c p) ≡ 2 ^ depth_of c

@@ -6,7 +6,7 @@
 --   Sided s P  == a vertex at which the ends of side s of P weigh alike and the corner opposite does not
 --
 -- Assumes nothing.
-use mathlib.Core.Bool.{Bool, true, false}
+use mathlib.Core.Bool.{Bool, true, false, true≢false}
 use mathlib.Core.List.{List, [], ◌∷◌}
 use mathlib.Core.Logic.{◌≢◌}
 use mathlib.Core.Path.{◌≡◌, refl, ap}
@@ -114,6 +114,21 @@ part_climbs s c d h w = on_side_climbs (corner c) s d (sided s c h) w.first
 -- the converse: a climbing digit's side is part of its parent's
 points : (s : Side) (c : Cell) (i j : Bool) → OnSide s (corner c) (corner c (end_of i s) ⊕ corner c (end_of j s))
 points s c i j = record { i = i; j = j; sum = refl }
+
+pub climbs_part : (s : Side) (c : Cell) (d : Digit) → stops s d ≡ false → Part s (child c d)
+unfolding stops corners
+climbs_part left c d00 e = record { first = points left c false false; second = points left c false true }
+climbs_part left c d01 e = record { first = points left c false true; second = points left c true true }
+climbs_part left c d10 e = absurd (true≢false e)
+climbs_part left c d11 e = absurd (true≢false e)
+climbs_part right c d00 e = record { first = points right c false false; second = points right c false true }
+climbs_part right c d01 e = absurd (true≢false e)
+climbs_part right c d10 e = absurd (true≢false e)
+climbs_part right c d11 e = record { first = points right c false true; second = points right c true true }
+climbs_part vertical c d00 e = absurd (true≢false e)
+climbs_part vertical c d01 e = record { first = points vertical c false false; second = points vertical c false true }
+climbs_part vertical c d10 e = absurd (true≢false e)
+climbs_part vertical c d11 e = record { first = points vertical c false true; second = points vertical c true true }
 
 -- a face is its own parent, and so is the face across
 face_across : (s : Side) (so : Solid) (f : ℕ) → parent (step s (cell so f [])) ≡ step s (cell so f [])

@@ -1,6 +1,8 @@
 -- What locating answers: one reply for any numbers, and the least code of the point's face and depth that holds the point.
+use mathlib.Core.Logic.{inl, inr}
 use mathlib.Core.Path.{◌≡◌, ap, ap₂, sym, ◌∙◌, subst}
 use Prim.Native.Nat.{ℕ, ◌+◌, ◌-◌, ◌*◌, ◌%◌, ◌^◌, ◌<◌, ◌≤◌}
+use native.Mathlib.Nat.{zero-mod}
 use native.Mathlib.Omega.{arith}
 use Rattle.solids.specs.Solids.{Known, solid_of, faces}
 use Rattle.solids.proofs.Numbers.{solid_no-solid_of}
@@ -26,6 +28,14 @@ head s f d h = (passed refused s f 0 d (λ r. r ≡ done 0) (done_differs 0) h).
 module _ (s f t l r d : ℕ) where
   pub located_single : Single (Located s f t l r d)
   located_single = need_single (λ a. need_single (λ b. need_single (λ c. need_single (λ e. is_single))))
+
+  -- a path of 0 is never at fault, so the check of the head gives 1, 2, 3 or 0
+  pub head_refused : {n : ℕ} → faults (λ k. k) s f 0 d (λ n. n ≡ 0) n → (n ≡ 0 → ⊥) → Located s f t l r d (refused n)
+  head_refused (inl x) z = inl (x.0, ap refused x.1)
+  head_refused (inr (a, inl x)) z = inr (a, inl (x.0, ap refused x.1))
+  head_refused (inr (a, inr (b, inl x))) z = inr (a, inr (b, inl (x.0, ap refused x.1)))
+  head_refused (inr (a, inr (b, inr (c, inl x)))) z = absurd (x.0 (omega arith, zero-mod (size d)))
+  head_refused (inr (a, inr (b, inr (c, inr (e, x))))) z = absurd (z x)
 
   -- the path shifted to the top of its field
   pub found_path : (m : ℕ) → m ≡ number (path_to (weights t l r) d) → d ≤ 26 →

@@ -29,10 +29,10 @@ use Rattle.sides.specs.Sides.{smaller_of}
 
 -- across side s of the leaf a lies the cell y, which has leaves inside, or lies inside one
 abbrev pub SmallerAt : List ℕ → ℕ → ℕ → ℕ → Type 0
-SmallerAt L a s y = (depth y < 26) × MetIs L a s (smaller_of y s)
+SmallerAt L a s y = (depth y < 26) × MetIs L a s (smaller_of y s) × IsCode y
 
 abbrev pub LargerAt : List ℕ → ℕ → ℕ → ℕ → Type 0
-LargerAt L a s y = (0 < depth y) × MetIs L a s (Larger (parent_code y))
+LargerAt L a s y = (0 < depth y) × MetIs L a s (Larger (parent_code y)) × IsCode y
 
 pub side_low : (s : Side) → side_no s < 3
 side_low left = omega arith
@@ -43,8 +43,8 @@ pub leaf_code : (Q : ℕ) (L : List ℕ) (x : ℕ) → MeshOf Q L → Leaf L x �
 leaf_code Q L x M m = on_solid_code M.solid x (M.mesh.covers.cells x m)
 
 module _ (L : List ℕ) (Q a s y : ℕ) (M : MeshOf Q L) (m : Leaf L a) (l : s < 3) (e : y ≡ step_code s a) where
-  on_y : CodeOn M.solid y
-  on_y = subst (CodeOn M.solid) (sym e) ((step_laws M.solid).on s a l (M.mesh.covers.cells a m))
+  pub on_across : CodeOn M.solid y
+  on_across = subst (CodeOn M.solid) (sym e) ((step_laws M.solid).on s a l (M.mesh.covers.cells a m))
 
   pub open_met : (InFaces Q (place y) → ⊥) → MetIs L a s Open
   open_met o =
@@ -75,15 +75,15 @@ module _ (L : List ℕ) (Q a s y : ℕ) (M : MeshOf Q L) (m : Leaf L a) (l : s <
         let x = get_or L r 0 in
         let h = leaf_at L r k in
         let w = M.mesh.covers.cells x h in
-        let u = range_in x y w on_y (B.rest r (omega arith) k) (omega (arith, i, size_pos (depth y))) in
-        let d = (in_kid x y w on_y u ne).0 in
-        (omega (arith, d, w.deep), smaller_met (record { leaf = x; is = h; inside = u; deeper = d }))
+        let u = range_in x y w on_across (B.rest r (omega arith) k) (omega (arith, i, size_pos (depth y))) in
+        let d = (in_kid x y w on_across u ne).0 in
+        (omega (arith, d, w.deep), smaller_met (record { leaf = x; is = h; inside = u; deeper = d }), on_solid_code M.solid y on_across)
 
     pub larger_found : InFaces Q (place y) → (r < length L → place (get_or L r 0) ≡ place y → ⊥) → LargerAt L a s y
     larger_found i ne =
         let o : Around L y =
         ⊎_elim
-        (λ p. let t = at_present M.solid Q L M.mesh.covers y r on_y B i p in absurd (ne t.0 t.1))
+        (λ p. let t = at_present M.solid Q L M.mesh.covers y r on_across B i p in absurd (ne t.0 t.1))
         (λ o. o)
-        (present_or M.solid Q L M.mesh.covers y on_y i) in
-        (omega (arith, o.larger), larger_met o)
+        (present_or M.solid Q L M.mesh.covers y on_across i) in
+        (omega (arith, o.larger), larger_met o, on_solid_code M.solid y on_across)

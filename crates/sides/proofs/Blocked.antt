@@ -12,10 +12,14 @@ use Rattle.soundness.specs.Leaves.{Leaf}
 use Rattle.soundness.specs.Meshes.{MeshOf}
 use Rattle.soundness.specs.Sides.{BlocksRefine, BlocksCoarsen}
 use Rattle.soundness.proofs.Cells.{depth_child}
-use Rattle.sides.specs.Sides.{Stands, InTheWay, Blocker}
+use Rattle.sides.specs.Sides.{AllIn, Stands, InTheWay, Blocker}
 use Rattle.sides.proofs.Least.{blocker_same}
 
 -- one leaf
+
+pub refine_in : (L : List ℕ) (a : ℕ) → Leaf L a → AllIn L (a ∷ [])
+refine_in L a m zero h = m
+refine_in L a m (suc i) h = absurd (omega arith)
 
 pub refine_all : (L : List ℕ) (a : ℕ) (r : Option ℕ) → Blocker (InTheWay L false (a ∷ [])) r → Blocker (BlocksRefine L a) r
 refine_all L a r =
@@ -45,6 +49,10 @@ kids_are c x y z w e f g h (suc zero) l = f
 kids_are c x y z w e f g h (suc (suc zero)) l = g
 kids_are c x y z w e f g h (suc (suc (suc zero))) l = h
 kids_are c x y z w e f g h (suc (suc (suc (suc q)))) l = absurd (omega arith)
+
+pub coarsen_in : (L : List ℕ) (c : ℕ) (A : List ℕ) → length A ≡ 4 → ((q : ℕ) → q < 4 → get_or A q 0 ≡ child_code c q) →
+    ((q : ℕ) → q < 4 → Leaf L (child_code c q)) → AllIn L A
+coarsen_in L c A four are f = λ i h. subst (Leaf L) (sym (are i (omega arith))) (f i (omega arith))
 
 module _ (L : List ℕ) (c : ℕ) (d : depth c < 26) (A : List ℕ) (four : length A ≡ 4) (are : (q : ℕ) → q < 4 → get_or A q 0 ≡ child_code c q) where
   pub coarsen_all : (r : Option ℕ) → Blocker (InTheWay L true A) r → Blocker (BlocksCoarsen L c) r

@@ -2,14 +2,19 @@
 use mathlib.Core.Bool.{Bool, true, false}
 use mathlib.Core.List.{List}
 use mathlib.Core.Logic.{⊎_elim}
-use mathlib.Core.Path.{◌≡◌, ap}
-use Prim.Native.Nat.{ℕ}
+use mathlib.Core.Path.{◌≡◌, sym, ap, subst}
+use Prim.Native.Nat.{ℕ, ◌<◌}
 use native.Mathlib.Omega.{arith}
+use Rattle.std.proofs.Common.{Option}
 use Rattle.codes.specs.Codes.{depth}
+use Rattle.codes.specs.Places.{CodeOn}
 use Rattle.soundness.specs.Sides.{MetIs}
 use Rattle.soundness.specs.declared.Met.{Met}
 use Rattle.soundness.specs.declared.Met.TheVariants.{Larger, Equal, Smaller, Open}
 use Rattle.sides.specs.Sides.{Stands, candidate_of, Blocker}
+
+pub code_pos : (S x : ℕ) → CodeOn S x → 0 < x
+code_pos S x w = omega (arith, w.from, w.known.0)
 
 module _ (L : List ℕ) (a s : ℕ) where
   same_depth : (x b : ℕ) → x ≡ b → depth x ≡ depth b
@@ -34,3 +39,6 @@ module _ (L : List ℕ) (a s : ℕ) where
     least = λ x p. ⊎_elim (λ e. omega arith) (λ e. omega (arith, h.order)) (h.no_other x p.leaf p.meets);
   }
   least_met true Open h = λ q. h q.one q.is.leaf q.is.meets
+
+  pub least_of_side : (small : Bool) (m : Met) (v : Option ℕ) → MetIs L a s m → v ≡ candidate_of small m → Blocker (Stands L small a s) v
+  least_of_side small m v h e = subst (Blocker (Stands L small a s)) (sym e) (least_met small m h)

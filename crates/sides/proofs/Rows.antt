@@ -1,6 +1,7 @@
 -- The search over leaves and their sides, one side more and one leaf more; a leaf that is the first of the mesh ends it.
 --
 --   Seen L small A i s b == b is in the way by a side before side s of the leaf i of A
+--   seen_none            == before the first side
 --   seen_pass, seen_more == one side more, with nothing in the way, and with a leaf in the way
 --   seen_row, seen_all   == a leaf done, all leaves done
 --   first_least          == no leaf is less than the first
@@ -8,7 +9,7 @@
 use mathlib.Core.Bool.{Bool}
 use mathlib.Core.List.{List, [], ◌∷◌}
 use mathlib.Core.Logic.{◌⊎◌, inl, inr, ⊎_elim}
-use mathlib.Core.Path.{◌≡◌, refl, sym, ◌∙◌, subst}
+use mathlib.Core.Path.{◌≡◌, refl, ◌∙◌, subst}
 use Prim.Native.Nat.{ℕ, zero, suc, ◌+◌, ◌<◌, ◌≤◌}
 use native.Mathlib.Omega.{arith}
 use lib.ListN.{length, get_or}
@@ -22,7 +23,7 @@ use Rattle.soundness.specs.declared.Met.{Met}
 use Rattle.soundness.proofs.Cells.{le_or_lt}
 use Rattle.soundness.proofs.Leaves.{at_leaf, asc_le}
 use Rattle.sides.specs.Sides.{Stands, InTheWay, candidate_of, Blocker}
-use Rattle.sides.proofs.Candidates.{least_met}
+use Rattle.sides.proofs.Candidates.{least_of_side}
 use Rattle.sides.proofs.Least.{blocker_same, blocker_left, blocker_either}
 
 pub record Seen (L : List ℕ) (small : Bool) (A : List ℕ) (i s b : ℕ) : Type 0 where
@@ -33,6 +34,9 @@ pub record Seen (L : List ℕ) (small : Bool) (A : List ℕ) (i s b : ℕ) : Typ
   pub stands : Stands L small (get_or A at 0) side b
 
 module _ (L : List ℕ) (small : Bool) (A : List ℕ) where
+  pub seen_none : Blocker (Seen L small A 0 0) None
+  seen_none = λ q. ⊎_elim (λ h. omega arith) (λ h. omega (arith, h.1)) q.is.before
+
   one_more : (i s x : ℕ) → Seen L small A i (s + 1) x → Seen L small A i s x ⊎ Stands L small (get_or A i 0) s x
   one_more i s x p =
       ⊎_elim
@@ -105,7 +109,7 @@ pub one_side : (L : List ℕ) (small : Bool) (A : List ℕ) (i s x : ℕ) (m : M
 one_side L small A i s x m r l k e h f =
     let y : x ≡ get_or A i 0 = e ∙ get_or_default A i x 0 l in
     let n = subst (λ (a : ℕ). MetIs L a s m) y (subst (λ (t : ℕ). MetIs L x t m) (same_side s k) h) in
-    subst (Blocker (Stands L small (get_or A i 0) s)) (sym f) (least_met L (get_or A i 0) s small m n)
+    least_of_side L (get_or A i 0) s small m r n f
 
 -- no leaf is less than the first
 pub first_least : (L : List ℕ) (small : Bool) (A : List ℕ) (i s b : ℕ) → Ascends L → i < length A → s < 3 → b ≡ get_or L 0 0 →

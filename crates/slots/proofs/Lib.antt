@@ -1,3 +1,4 @@
 pub mod Search
+pub mod Signs
 pub mod Slots
 pub mod Zeros

@@ -1,9 +1,11 @@
--- Slots joined by or are zero where each of them is, and not otherwise.
-use Rattle.std.proofs.Common.{◌≡◌, ℕ, zero, suc, ◌-◌, eqb, List, [], ◌∷◌, ◌++◌, length, drop, replicate, refl, ap, ◌∙◌, arith, length-drop, eqb-true}
+-- Slots joined by or are zero where each of them is, and not otherwise; zeros from an index on; slots cleared, one more downwards.
+use Rattle.std.proofs.Common.{◌≡◌, ℕ, zero, suc, ◌+◌, ◌-◌, ◌<◌, ◌≤◌, eqb, List, [], ◌∷◌, ◌++◌, length, get_or, take, drop, set, replicate, sym, refl, ap, ◌∙◌, append_assoc, append-nil, arith, length-drop, length-take-le, get_or-drop, take-suc, ext_get_or, eqb-true}
 use borrow.Author.Tests.{eqb-false}
 use lib.Bits.{bit_or, or_add_and, and_le_l, and_le_r}
+use lib.ListN.{get_or-replicate, length-replicate}
+use lib.Seq.{take-length, set_at}
 use Rattle.refusals.specs.Answers.{Tells}
-use Rattle.slots.specs.Slots.{ZerosFrom}
+use Rattle.slots.specs.Slots.{ZerosFrom, cleared_from}
 
 or_none : (a b : ℕ) → bit_or a b ≡ 0 → (a ≡ 0) × (b ≡ 0)
 or_none a b e =
@@ -50,3 +52,39 @@ joined_tells xs n x j = record {
   yes = λ e. zeros_are (drop n xs) (j.clear (eqb-true x 0 e)) ∙ ap (λ (k : ℕ). replicate {A = ℕ} k 0) (length-drop n xs);
   no = λ e z. eqb-false x 0 e (j.none (are_zeros (length xs - n) (drop n xs) z));
 }
+
+module _ (xs : List ℕ) where
+  none_left : replicate {A = ℕ} (length xs - length xs) 0 ≡ []
+  none_left =
+      let e : length xs - length xs ≡ 0 = omega arith in
+      ap (λ (k : ℕ). replicate {A = ℕ} k 0) e
+
+  one_more : (i : ℕ) → i < length xs → replicate {A = ℕ} (length xs - i) 0 ≡ 0 ∷ replicate (length xs - suc i) 0
+  one_more i h =
+      let e : length xs - i ≡ suc (length xs - suc i) = omega arith in
+      ap (λ (k : ℕ). replicate {A = ℕ} k 0) e
+
+  pub zeros_all : (n : ℕ) → n ≤ length xs → ((i : ℕ) → i < length xs → n ≤ i → get_or xs i 0 ≡ 0) → ZerosFrom xs n
+  zeros_all n l z =
+      ext_get_or 0 (drop n xs) (replicate (length xs - n) 0) (length-drop n xs ∙ sym (length-replicate (length xs - n) 0))
+      (λ i h. get_or-drop n xs i 0 ∙ z (n + i) (omega (arith, length-drop n xs)) (omega arith)
+      ∙ sym (get_or-replicate (length xs - n) i 0 0 (omega (arith, length-drop n xs))))
+
+  pub zeros_at : (n i : ℕ) → n ≤ i → i < length xs → ZerosFrom xs n → get_or xs i 0 ≡ 0
+  zeros_at n i l h z =
+      let e : i ≡ n + (i - n) = omega arith in
+      ap (λ (k : ℕ). get_or xs k 0) e
+      ∙ sym (get_or-drop n xs (i - n) 0)
+      ∙ ap (λ (t : List ℕ). get_or t (i - n) 0) z
+      ∙ get_or-replicate (length xs - n) (i - n) 0 0 (omega arith)
+
+  pub cleared_none : xs ≡ cleared_from xs (length xs)
+  cleared_none = sym (ap (λ (t : List ℕ). take (length xs) xs ++ t) none_left ∙ append-nil (take (length xs) xs) ∙ take-length xs)
+
+  pub cleared_more : (i : ℕ) → i < length xs → set (cleared_from xs (suc i)) i 0 ≡ cleared_from xs i
+  cleared_more i h =
+      let z : List ℕ = replicate (length xs - suc i) 0 in
+      ap (λ (t : List ℕ). set (t ++ z) i 0) (take-suc xs i 0 h)
+      ∙ ap (λ (t : List ℕ). set t i 0) (append_assoc (take i xs) (get_or xs i 0 ∷ []) z)
+      ∙ set_at (take i xs) (get_or xs i 0) z 0 i (length-take-le i xs (omega arith))
+      ∙ ap (λ (t : List ℕ). take i xs ++ t) (sym (one_more i h))

@@ -1,5 +1,4 @@
--- One of two words chosen by a mask. Another path, or another face and path, put into a code by masks: the fields beside it
--- stay as they were.
+-- Another path, or another face and path, put into a code by masks: the fields beside it stay as they were.
 use Rattle.std.proofs.Common.{◌≡◌, ℕ, zero, suc, ◌+◌, ◌*◌, ◌/◌, ◌%◌, ◌^◌, ◌<◌, sym, refl, ap, ◌∙◌, ap₂, mod-lt, pow-suc, zero-add, arith, lit<, pow_pos}
 use lib.Bits.{bit_and, bit_or, bit_xor, and_block, and_mask, or_block, or_zero_r, or_shifted, or_shifted_r, xor_block, xor_zero_r, xor_lt}
 use lib.Pow.{split}

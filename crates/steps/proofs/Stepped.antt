@@ -1,5 +1,5 @@
 -- The step on codes has one answer, and the step of the cell gives it.
-use Rattle.std.proofs.Common.{◌≡◌, ℕ, ◌<◌, ◌≤◌, Bool, true, false, List, map, sym, refl, ap, ◌∙◌, ap₂, inr, arith}
+use Rattle.std.proofs.Common.{◌≡◌, ℕ, ◌<◌, ◌≤◌, Bool, true, false, List, map, sym, refl, ap, ◌∙◌, ap₂, inl, inr, arith}
 use lib.ListN.{length-map}
 use Rattle.solids.specs.Triangles.{Side, left, right, vertical, side_no, side_of}
 use Rattle.solids.specs.Solids.{Solid, solid_of, next_face, mirrored}
@@ -16,7 +16,7 @@ use Rattle.geometry.proofs.Across.{length-walked}
 use Rattle.geometry.proofs.Neighbours.{neighbour, one_neighbour}
 use Rattle.codes.specs.Codes as codes
 use Rattle.codes.specs.Codes.{solid, face, depth, IsCode, path_bits, cell_of, code_of}
-use Rattle.codes.proofs.Faults.{code_single, code_on, code_passed}
+use Rattle.codes.proofs.Faults.{code_single, code_on, code_hand_on, code_passed}
 use Rattle.codes.proofs.Codes.{code_formed, cell_of-code_of, cell_formed, depth_of-cell_of, cell_deep, one_code}
 use Rattle.steps.specs.Stepped.{step_faults, Arrives, Stepped, step_code}
 
@@ -45,9 +45,16 @@ module _ (x s : ℕ) (c : IsCode x) where
       ap₂ (λ (m n : ℕ). record { number = m; value = n }) (p.number ∙ sym q.number)
       (one_step a.value p.code p.across ∙ sym (one_step b.value q.code q.across))
 
--- the sequence 1 to 5: how a call goes on after it
+-- the sequence 1 to 5: how a call hands on the number of the check, how it goes on, and what the number 0 says
 
 module _ {A : Type 0} (out : ℕ → A) (x s : ℕ) (rest : A → Type 0) where
+  pub step_refused : {n : ℕ} → step_faults (λ k. k) x s (λ n. n ≡ 0) n → (n ≡ 0 → ⊥) → step_faults out x s rest (out n)
+  step_refused {n} h z = code_hand_on out x (need (s < 3) (out DIRECTION) rest) (need (s < 3) DIRECTION (λ n. n ≡ 0)) h last
+    where
+      last : need (s < 3) DIRECTION (λ n. n ≡ 0) n → need (s < 3) (out DIRECTION) rest (out n)
+      last (inl p) = inl (p.0, ap out p.1)
+      last (inr p) = absurd (z p.1)
+
   pub step_on : {a : A} → IsCode x → s < 3 → rest a → step_faults out x s rest a
   step_on c h r = code_on out x (need (s < 3) (out DIRECTION) rest) c (inr (h, r))
 
@@ -56,6 +63,9 @@ module _ {A : Type 0} (out : ℕ → A) (x s : ℕ) (rest : A → Type 0) where
       let p = code_passed out x (need (s < 3) (out DIRECTION) rest) n h in
       let q = met (n DIRECTION (omega arith)) p.1 in
       (p.0, q.0, q.1)
+
+pub step_formed : (x s : ℕ) {n : ℕ} → step_faults (λ k. k) x s (λ n. n ≡ 0) n → n ≡ 0 → IsCode x × (s < 3)
+step_formed x s h z = let p = step_passed (λ k. k) x s (λ n. n ≡ 0) (λ k l e. omega arith) h in (p.0, p.1)
 
 pub stepped_single : (x s : ℕ) → Single (Stepped x s)
 stepped_single x s = code_single refused x (need (s < 3) (refused DIRECTION) (Arrives x s)) (λ c. need_single (λ h. arrives_single x s c))
