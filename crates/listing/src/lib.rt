@@ -3,7 +3,7 @@
 
 #![tactic(auto)]
 
-ghost use Rattle.std.specs.Prelude.{List, [], ◌++◌, ◌≡◌, ℕ, ◌+◌, ◌*◌, ◌≤◌, length, take};
+ghost use Rattle.std.specs.Prelude.{List, [], ◌++◌, ◌≡◌, ℕ, ◌+◌, ◌*◌, ◌≤◌, length, take, drop};
 ghost use Rattle.arrayvec.specs.ArrayString.{array_string_len};
 ghost use Rattle.refusals.specs.Refusals.{Single};
 ghost use Rattle.refusals.specs.Answers.{unit_reply};
@@ -192,9 +192,10 @@ pub fn put_listing(page: &mut ArrayString<PAGE>, input: &[u8])
     }
 }
 
-/// Writes what is printed for an input into the first bytes of a page, and answers how many they are.
+/// Writes what is printed for an input into the first bytes of a page, and answers how many they are. The others stay as they are.
 pub fn list(page: &mut [u8; PAGE], input: &[u8]) -> usize
     ensures prints { Prints input.now (take result page.new) }
+    ensures rest { drop result page.new ≡ drop result page.old }
     ensures upper_bound { result ≤ length page.new }
 {
     let mut text = ArrayString::new();
